@@ -1,0 +1,36 @@
+-- What a stopped search finds: the first matches, up to one past the limit.
+-- Assumes nothing.
+use mathlib.Core.Path.{_≡_, refl, ap}
+use mathlib.Core.Bool.{Bool, true, false}
+use mathlib.Core.Logic.{_↔_}
+use mathlib.Core.List.{List, [], _∷_}
+use Prim.Native.Nat.{ℕ, zero, suc, _≤_, _<_}
+use native.Mathlib.Omega.{arith}
+use lib.ListN.{length, take, length-take}
+use Rattle.lists.specs.Keep.{keep, consIf}
+use Rattle.lists.specs.Limit.{goOn, stopped}
+
+module _ {A : Type 0} (p : A → Bool) where
+  -- the matches of a stopped list are the first n + 1 of all matches
+  pub keep-stopped : (xs : List A) (n : ℕ) → keep p (stopped p xs n) ≡ take (suc n) (keep p xs)
+  keep-stopped [] n = refl
+  keep-stopped (x ∷ xs) n = go (λ m. keep-stopped xs m) (p x) n
+    where
+      go : ((m : ℕ) → keep p (stopped p xs m) ≡ take (suc m) (keep p xs)) → (b : Bool) (n : ℕ) → consIf b x (keep p (goOn b n (λ m. stopped p xs m))) ≡ take (suc n) (consIf b x (keep p xs))
+      go ih false n = ih n
+      go ih true zero = refl
+      go ih true (suc n) = ap (λ (l : List A). x ∷ l) (ih n)
+
+  -- a list with no more than n matches is looked at whole
+  pub stopped-whole : (xs : List A) (n : ℕ) → length (keep p xs) ≤ n → stopped p xs n ≡ xs
+  stopped-whole [] n h = refl
+  stopped-whole (x ∷ xs) n h = ap (λ (l : List A). x ∷ l) (go (λ m. stopped-whole xs m) (p x) n h)
+    where
+      go : ((m : ℕ) → length (keep p xs) ≤ m → stopped p xs m ≡ xs) → (b : Bool) (n : ℕ) → length (consIf b x (keep p xs)) ≤ n → goOn b n (λ m. stopped p xs m) ≡ xs
+      go ih false n h = ih n h
+      go ih true zero h = absurd (omega arith)
+      go ih true (suc n) h = ih n (omega arith)
+
+  -- more than n matches are seen exactly if there are more than n
+  pub stopped-past : (xs : List A) (n : ℕ) → (n < length (keep p (stopped p xs n))) ↔ (n < length (keep p xs))
+  stopped-past xs n = rw (keep-stopped, length-take) (λ h. omega arith, λ h. omega arith)

@@ -1,0 +1,72 @@
+-- Ascending lists: joined, filtered, mapped; two with the same members are one list.
+-- Assumes nothing.
+use mathlib.Core.Path.{_≡_, refl, sym, ap₂, _∙_}
+use mathlib.Core.Bool.{Bool, true, false}
+use mathlib.Core.Logic.{_⊎_, inl, inr, ⊎-elim}
+use mathlib.Core.List.{List, [], _∷_, _++_, map}
+use Rattle.lists.specs.Keep.{keep, consIf}
+use Rattle.lists.specs.Member.{_∈_, Distinct}
+use Rattle.lists.specs.Order.{StrictOrder, Ascending}
+use Rattle.lists.proofs.Cases.{clash}
+use Rattle.lists.proofs.Member.{append-∈, map-∈}
+use Rattle.lists.proofs.Keep.{keep-∈}
+
+-- an order on what f gives of different elements orders the elements
+pub order-by : {A B : Type 0} {less : B → B → Bool} (f : A → B) → ((x y : A) → f x ≡ f y → x ≡ y) → StrictOrder less → StrictOrder (λ (x y : A). less (f x) (f y))
+order-by f injective o =
+    record {
+      irreflexive = λ x. o .irreflexive (f x);
+      transitive = λ x y z h k. o .transitive (f x) (f y) (f z) h k;
+      total = λ x y h k. injective x y (o .total (f x) (f y) h k);
+    }
+
+module _ {A : Type 0} (less : A → A → Bool) where
+  pub ascending-append : (xs ys : List A) → Ascending less xs → Ascending less ys → ((x y : A) → x ∈ xs → y ∈ ys → less x y ≡ true) → Ascending less (xs ++ ys)
+  ascending-append [] ys a b h = b
+  ascending-append (x ∷ xs) ys a b h =
+      (λ y m. ⊎-elim (λ k. a .0 y k) (λ k. h x y (inl refl) k) (append-∈ y xs ys m), ascending-append xs ys (a .1) b (λ u v k l. h u v (inr k) l))
+
+  pub ascending-keep : (p : A → Bool) (xs : List A) → Ascending less xs → Ascending less (keep p xs)
+  ascending-keep p [] a = tt
+  ascending-keep p (x ∷ xs) a = go (p x) (ascending-keep p xs (a .1))
+    where
+      go : (b : Bool) → Ascending less (keep p xs) → Ascending less (consIf b x (keep p xs))
+      go true k = (λ y m. a .0 y (keep-∈ p y xs m .0), k)
+      go false k = k
+
+  module _ (o : StrictOrder less) where
+    -- an ascending list's later elements differ from its first
+    pub later-differs : (x z : A) (xs : List A) → Ascending less (x ∷ xs) → z ∈ xs → z ≡ x → ⊥
+    later-differs x z xs a m e = clash (rw e at (a .0 z m)) (o .irreflexive x)
+
+    -- two elements are not each before the other
+    pub asymmetric : (x y : A) → less x y ≡ true → less y x ≡ true → ⊥
+    asymmetric x y h k = clash (o .transitive x y x h k) (o .irreflexive x)
+
+    pub ascending-distinct : (xs : List A) → Ascending less xs → Distinct xs
+    ascending-distinct [] a = tt
+    ascending-distinct (x ∷ xs) a = (λ m. later-differs x x xs a m refl, ascending-distinct xs (a .1))
+
+    -- two ascending lists with the same members are equal
+    pub ascending-unique : (xs ys : List A) → Ascending less xs → Ascending less ys → ((z : A) → z ∈ xs → z ∈ ys) → ((z : A) → z ∈ ys → z ∈ xs) → xs ≡ ys
+    ascending-unique [] [] a b f g = refl
+    ascending-unique [] (y ∷ ys) a b f g = absurd (g y (inl refl))
+    ascending-unique (x ∷ xs) [] a b f g = absurd (f x (inl refl))
+    ascending-unique (x ∷ xs) (y ∷ ys) a b f g =
+        let e : x ≡ y = heads (f x (inl refl)) (g y (inl refl)) in
+        let t : xs ≡ ys =
+        ascending-unique xs ys (a .1) (b .1)
+        (λ z m. ⊎-elim (λ k. absurd (later-differs x z xs a m (k ∙ sym e))) (λ k. k) (f z (inr m)))
+        (λ z m. ⊎-elim (λ k. absurd (later-differs y z ys b m (k ∙ e))) (λ k. k) (g z (inr m))) in
+        ap₂ {C = List A} (λ u l. u ∷ l) e t
+      where
+        heads : (x ≡ y) ⊎ (x ∈ ys) → (y ≡ x) ⊎ (y ∈ xs) → x ≡ y
+        heads (inl e) m = e
+        heads (inr k) (inl e) = sym e
+        heads (inr k) (inr l) = absurd (asymmetric x y (a .0 y l) (b .0 x k))
+
+-- a map that keeps the order of a list's elements keeps it ascending
+pub ascending-map : {A B : Type 0} (less : A → A → Bool) (below : B → B → Bool) (f : A → B) (xs : List A) → ((x y : A) → x ∈ xs → y ∈ xs → less x y ≡ true → below (f x) (f y) ≡ true) → Ascending less xs → Ascending below (map f xs)
+ascending-map less below f [] h a = tt
+ascending-map less below f (x ∷ xs) h a =
+    (λ z m. let r = map-∈ f z xs m in rw (r .2) (h x (r .0) (inl refl) (inr (r .1)) (a .0 (r .0) (r .1))), ascending-map less below f xs (λ u v k l. h u v (inr k) (inr l)) (a .1))

@@ -1,0 +1,6 @@
+pub mod Keep
+pub mod Member
+pub mod Order
+pub mod Sort
+pub mod Triple
+pub mod Limit
