@@ -1,4 +1,5 @@
 pub mod Cases
+pub mod Below
 pub mod Member
 pub mod Keep
 pub mod Order
@@ -6,3 +7,4 @@ pub mod Sort
 pub mod Triple
 pub mod Limit
 pub mod Part
+pub mod Reverse

@@ -1,5 +1,5 @@
--- The elements of a list that pass a test.
-use mathlib.Core.Bool.{Bool, true, false}
+-- The elements of a list that pass a test, and whether all do.
+use mathlib.Core.Bool.{Bool, true, false, _&&_}
 use mathlib.Core.List.{List, [], _∷_}
 
 module _ {A : Type 0} where
@@ -12,3 +12,8 @@ module _ {A : Type 0} where
   abbrev pub keep : (A → Bool) → List A → List A
   keep p [] = []
   keep p (x ∷ xs) = consIf (p x) x (keep p xs)
+
+  -- every element passes the test p
+  abbrev pub every : (A → Bool) → List A → Bool
+  every p [] = true
+  every p (x ∷ xs) = p x && every p xs

@@ -1,0 +1,108 @@
+-- Laws of single bytes, each by one computed test over all 256; above them a number is no letter, and stays itself.
+-- Assumes nothing.
+use mathlib.Core.Path.{_≡_, refl, sym, ap, _∙_}
+use mathlib.Core.Bool.{Bool, true, false, cond, not, _&&_, _||_, Bool·beq}
+use mathlib.Core.List.{List, [], _∷_}
+use Prim.Native.Nat.{ℕ, _+_, _-_, _*_, _<_, _≤_}
+use native.Mathlib.Omega.{arith}
+use lib.Dec.{ltb, leb, eqb}
+use lib.ListN.{getD}
+use borrow.Author.Tests.{eqb-true, eq-eqb, ne-eqb, ltb-true, ltb-false, lt-leb}
+use Rattle.lists.specs.Keep.{every}
+use Rattle.lists.proofs.Cases.{by-test, and-true, beq-true, eq-beq}
+use Rattle.lists.proofs.Below.{passesBelow, passes-at, tabulate, tabulate-at}
+use Rattle.bases.specs.Base.{beside, codes, complements, codeOf, complementOf, upperOf, isBase, mark}
+
+-- ---- the table
+
+-- what the table holds of a byte
+abbrev pub rule : ℕ → ℕ
+rule b = codeOf b * 256 + complementOf b
+
+-- the rule at each byte of a table that is computed by it: a proof that cites this has antt compare all 256 entries
+pub table-at : (b : ℕ) → b < 256 → getD (tabulate rule 0 256) b 0 ≡ rule b
+table-at b h = tabulate-at rule 0 256 b h ∙ ap rule (omega arith)
+
+pub complement-byte : (b : ℕ) → b < 256 → complementOf b < 256
+unfolding complementOf
+complement-byte b h = ltb-true (complementOf b) 256 (passes-at (λ b. ltb (complementOf b) 256) 256 refl b h)
+
+-- ---- every number: the bytes by a test, those above by a reason
+
+everywhere : (test : ℕ → Bool) → passesBelow test 256 ≡ true → ((b : ℕ) → 256 ≤ b → test b ≡ true) → (b : ℕ) → test b ≡ true
+everywhere test t above b = by-test (ltb b 256) (λ e. passes-at test 256 t b (ltb-true b 256 e)) (λ e. above b (ltb-false b 256 e))
+
+beside-above : (pairs : List (ℕ × ℕ)) (other b : ℕ) → every (λ (p : ℕ × ℕ). ltb (p .0) 256) pairs ≡ true → 256 ≤ b → beside pairs other b ≡ other
+beside-above [] other b t h = refl
+beside-above (p ∷ ps) other b t h =
+    let e = and-true (ltb (p .0) 256) (every (λ (p : ℕ × ℕ). ltb (p .0) 256) ps) t in
+    let low = ltb-true (p .0) 256 (e .0) in
+    rw (ne-eqb b (p .0) (λ k. omega arith)) (beside-above ps other b (e .1) h)
+
+complement-above : (b : ℕ) → 256 ≤ b → complementOf b ≡ b
+unfolding complementOf
+complement-above b h = beside-above complements b b refl h
+
+code-above : (b : ℕ) → 256 ≤ b → codeOf b ≡ mark
+unfolding codeOf
+code-above b h = beside-above codes mark b refl h
+
+upper-above : (b : ℕ) → 256 ≤ b → upperOf b ≡ b
+unfolding upperOf
+upper-above b h = rw (lt-leb b 122 (omega arith)) (by-test (leb 97 b) (λ e. rw e) (λ e. rw e))
+
+base-above : (b : ℕ) → 256 ≤ b → isBase b ≡ false
+unfolding isBase
+base-above b h = simp (ne-eqb b 65 (λ e. omega arith), ne-eqb b 67 (λ e. omega arith), ne-eqb b 71 (λ e. omega arith), ne-eqb b 84 (λ e. omega arith))
+
+-- ---- the laws
+
+pub complement-twice : (b : ℕ) → complementOf (complementOf b) ≡ b
+unfolding complementOf
+complement-twice b =
+    eqb-true (complementOf (complementOf b)) b
+    (everywhere (λ b. eqb (complementOf (complementOf b)) b) refl (λ b h. eq-eqb (complementOf (complementOf b)) b (ap complementOf (complement-above b h) ∙ complement-above b h)) b)
+
+-- a letter's complement has three less its code, and any other byte stays marked
+pub code-complement : (b : ℕ) → codeOf (complementOf b) ≡ cond (eqb (codeOf b) mark) mark (3 - codeOf b)
+unfolding codeOf complementOf
+code-complement b =
+    eqb-true _ _
+    (everywhere (λ b. eqb (codeOf (complementOf b)) (cond (eqb (codeOf b) mark) mark (3 - codeOf b))) refl
+    (λ b h. eq-eqb _ _ (ap codeOf (complement-above b h) ∙ code-above b h ∙ sym (ap (λ n. cond (eqb n mark) mark (3 - n)) (code-above b h)))) b)
+
+-- a letter's code does not depend on its case
+pub code-upper : (b : ℕ) → codeOf (upperOf b) ≡ codeOf b
+unfolding codeOf upperOf
+code-upper b = eqb-true _ _ (everywhere (λ b. eqb (codeOf (upperOf b)) (codeOf b)) refl (λ b h. eq-eqb _ _ (ap codeOf (upper-above b h))) b)
+
+pub upper-complement : (b : ℕ) → upperOf (complementOf b) ≡ complementOf (upperOf b)
+unfolding upperOf complementOf
+upper-complement b =
+    eqb-true _ _
+    (everywhere (λ b. eqb (upperOf (complementOf b)) (complementOf (upperOf b))) refl
+    (λ b h. eq-eqb _ _ (ap upperOf (complement-above b h) ∙ upper-above b h ∙ sym (ap complementOf (upper-above b h) ∙ complement-above b h))) b)
+
+-- a byte is in upper case exactly if its complement is
+pub case-kept : (b : ℕ) → eqb (upperOf (complementOf b)) (complementOf b) ≡ eqb (upperOf b) b
+unfolding upperOf complementOf
+case-kept b =
+    beq-true _ _
+    (everywhere (λ b. Bool·beq (eqb (upperOf (complementOf b)) (complementOf b)) (eqb (upperOf b) b)) refl
+    (λ b h. eq-beq _ _ (ap (λ n. eqb (upperOf n) n) (complement-above b h))) b)
+
+-- a byte is a letter of ACGT in either case exactly if its code is not the mark
+pub letter-code : (b : ℕ) → isBase (upperOf b) ≡ not (eqb (codeOf b) mark)
+unfolding isBase upperOf codeOf
+letter-code b =
+    beq-true _ _
+    (everywhere (λ b. Bool·beq (isBase (upperOf b)) (not (eqb (codeOf b) mark))) refl
+    (λ b h. eq-beq _ _ (ap isBase (upper-above b h) ∙ base-above b h ∙ sym (ap (λ n. not (eqb n mark)) (code-above b h)))) b)
+
+-- and its complement is one exactly if it is
+pub letter-complement : (b : ℕ) → isBase (upperOf (complementOf b)) ≡ isBase (upperOf b)
+unfolding isBase upperOf complementOf
+letter-complement b =
+    beq-true _ _
+    (everywhere (λ b. Bool·beq (isBase (upperOf (complementOf b))) (isBase (upperOf b))) refl
+    (λ b h. eq-beq _ _ (ap (λ n. isBase (upperOf n)) (complement-above b h))) b)

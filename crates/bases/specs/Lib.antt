@@ -1,0 +1,3 @@
+pub mod Base
+pub mod Read
+pub mod Eligibility

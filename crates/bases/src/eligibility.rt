@@ -1,0 +1,90 @@
+// Which reads are eligible for placement (`eligible_normalized_read` of the Rust, without its copy).
+ghost use mathlib.Core.Path.{_≡_};
+ghost use mathlib.Core.List.{map};
+ghost use Rattle.lists.specs.Keep.{every};
+ghost use Rattle.bases.specs.Base.{isBase, upperOf};
+ghost use Rattle.bases.specs.Read.{lent, readOf};
+ghost use Rattle.bases.specs.Eligibility.{verdictOf, qualitiesTest, givenTest, eligibility};
+use crate::base::MARK;
+use crate::base::code;
+
+// What is decided of a read: one of three refusals, or whether it is eligible.
+pub enum Eligibility {
+    EmptyRead,
+    QualityLength,
+    PhredByte,
+    Ineligible,
+    Eligible,
+}
+
+// What the qualities decide, from the left: the first byte that is outside or low.
+fn judge_qualities(qualities: &[u8], floor: u8, offset: u8) -> Eligibility
+    ensures { λ r. ⌜ verdictOf r ≡ qualitiesTest floor offset (now (qualities .entry)) ⌝ }
+{
+    let mut i = 0;
+    while i < qualities.len() {
+        let q = qualities[i];
+        if q < offset {
+            return Eligibility::PhredByte;
+        }
+        if 126 < q {
+            return Eligibility::PhredByte;
+        }
+        if q - offset < floor {
+            return Eligibility::Ineligible;
+        }
+        i += 1;
+    }
+    Eligibility::Eligible
+}
+
+// Whether every byte is a letter of ACGT in either case.
+fn all_bases(bases: &[u8]) -> bool
+    ensures { λ r. ⌜ r ≡ every isBase (map upperOf (now (bases .entry))) ⌝ }
+{
+    let mut i = 0;
+    while i < bases.len() {
+        if code(bases[i]) == MARK {
+            return false;
+        }
+        i += 1;
+    }
+    true
+}
+
+// What the qualities decide where they are present.
+fn judge_given(bases: &[u8], qualities: &[u8], present: bool, floor: u8, offset: u8) -> Eligibility
+    ensures { λ r. ⌜ verdictOf r ≡ givenTest floor offset (lent present (now (qualities .entry))) (now (bases .entry)) ⌝ }
+{
+    if !present {
+        return Eligibility::Eligible;
+    }
+    if qualities.len() != bases.len() {
+        return Eligibility::QualityLength;
+    }
+    judge_qualities(qualities, floor, offset)
+}
+
+// Judges a read: its qualities first, and then its bases.
+pub fn judge_read(
+    bases: &[u8],
+    qualities: &[u8],
+    present: bool,
+    floor: u8,
+    offset: u8,
+) -> Eligibility
+    ensures { λ r. ⌜ verdictOf r ≡ eligibility floor offset (readOf (now (bases .entry)) present (now (qualities .entry))) ⌝ }
+{
+    if bases.len() == 0 {
+        return Eligibility::EmptyRead;
+    }
+    let judged = judge_given(bases, qualities, present, floor, offset);
+    let Eligibility::Eligible = judged else {
+        return judged;
+    };
+    if all_bases(bases) {
+        Eligibility::Eligible
+    } else {
+        Eligibility::Ineligible
+    }
+}

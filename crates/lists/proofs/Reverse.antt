@@ -1,0 +1,55 @@
+-- Reversed lists: by their places, mapped, and tested.
+-- Assumes nothing.
+use mathlib.Core.Path.{_≡_, refl, sym, ap, _∙_}
+use mathlib.Core.Bool.{Bool, true, false, _&&_}
+use mathlib.Core.Logic.{_⊎_, inl, inr}
+use mathlib.Core.List.{List, [], _∷_, _++_, map, reverse, reverseAux, reverse-cons}
+use Prim.Native.Nat.{ℕ, zero, suc, _-_, _<_}
+use native.Mathlib.Omega.{arith}
+use lib.ListN.{length, getD, length-reverse, List·getD-append}
+use lib.Seq.{getD-at}
+use Rattle.lists.specs.Keep.{every}
+use Rattle.lists.proofs.Cases.{compare}
+
+pub getD-reverse : {A : Type 0} (d : A) (l : List A) (i : ℕ) → i < length l → getD (reverse l) i d ≡ getD l (length l - suc i) d
+getD-reverse d [] i h = absurd (omega arith)
+getD-reverse {A} d (x ∷ xs) i h = rw reverse-cons (go (compare i (length xs)) (getD-reverse d xs i))
+  where
+    -- the place counted from the other end
+    place : (j : ℕ) → j ≡ suc (length xs) - suc i → getD (x ∷ xs) j d ≡ getD (x ∷ xs) (suc (length xs) - suc i) d
+    place j e = ap (λ k. getD (x ∷ xs) k d) e
+
+    go : (i < length xs) ⊎ ((i ≡ length xs) ⊎ (length xs < i)) → (i < length xs → getD (reverse xs) i d ≡ getD xs (length xs - suc i) d) → getD (reverse xs ++ (x ∷ [])) i d ≡ getD (x ∷ xs) (suc (length xs) - suc i) d
+    go (inl k) ih = List·getD-append (reverse xs) (x ∷ []) d i (rw length-reverse k) ∙ ih k ∙ place (suc (length xs - suc i)) (omega arith)
+    go (inr (inl e)) ih = getD-at (reverse xs) x [] d i (length-reverse xs ∙ sym e) ∙ place 0 (omega arith)
+    go (inr (inr k)) ih = absurd (omega arith)
+
+pub map-reverse : {A B : Type 0} (f : A → B) (xs : List A) → map f (reverse xs) ≡ reverse (map f xs)
+map-reverse {A} {B} f xs = go xs []
+  where
+    go : (l r : List A) → map f (reverseAux l r) ≡ reverseAux (map f l) (map f r)
+    go [] r = refl
+    go (x ∷ l) r = go l (x ∷ r)
+
+and-comm : (b d : Bool) → (b && d) ≡ (d && b)
+and-comm true true = refl
+and-comm true false = refl
+and-comm false true = refl
+and-comm false false = refl
+
+module _ {A : Type 0} (p : A → Bool) where
+  every-append : (xs ys : List A) → every p (xs ++ ys) ≡ (every p xs && every p ys)
+  every-append [] ys = refl
+  every-append (x ∷ xs) ys = rw (every-append xs ys) (go (p x))
+    where
+      go : (b : Bool) → (b && (every p xs && every p ys)) ≡ ((b && every p xs) && every p ys)
+      go true = refl
+      go false = refl
+
+  pub every-reverse : (xs : List A) → every p (reverse xs) ≡ every p xs
+  every-reverse [] = refl
+  every-reverse (x ∷ xs) = rw (reverse-cons, every-append, every-reverse xs) (and-comm (every p xs) (p x && true) ∙ go (p x))
+    where
+      go : (b : Bool) → ((b && true) && every p xs) ≡ (b && every p xs)
+      go true = refl
+      go false = refl
