@@ -150,5 +150,5 @@ module _ (floor offset : ℕ) where
   eligibility-turned r = go (r .bases) (r .qualities)
     where
       go : (bs : List ℕ) (q : Qualities) → (eligibility floor offset (turned (record { bases = bs; qualities = q })) ≡ refused 16 → ⊥) → (eligibility floor offset (record { bases = bs; qualities = q }) ≡ refused 16 → ⊥) → eligibility floor offset (turned (record { bases = bs; qualities = q })) ≡ eligibility floor offset (record { bases = bs; qualities = q })
-      go bs absent nv nw = rw (empty-turned, letters-turned)
+      go bs absent = λ nv nw. rw (empty-turned, letters-turned)
       go bs (given qs) = rw (empty-turned, letters-turned, length-reverse-complement, length-reverse) (both-ways (emptyTest bs) (lengthTest qs bs) (qualitiesTest floor offset (reverse qs)) (qualitiesTest floor offset qs) (basesTest bs) (of-qualities (reverse qs)) (of-qualities qs) (passes-reversed qs))

@@ -21,39 +21,6 @@ use Rattle.bases.specs.declared.eligibility.Eligibility.the-variants.{Em
 use Rattle.bases.proofs.eligibility.Eligibility.{the-type}
 use Rattle.bases.proofs.Bytes.{letter-code}
 
--- the qualities from i on
-module _ (floor offset : ℕ) (qs : List ℕ) (i : ℕ) (h : i < length qs) where
-  next : qualitiesTest floor offset (drop i qs) ≡ qualityTest floor offset (getD qs i 0) then qualitiesTest floor offset (drop (i + 1) qs)
-  next = rw (add-one, drop-cons qs i 0)
-
-  pub below-offset : getD qs i 0 < offset → qualitiesTest floor offset (drop i qs) ≡ refused 16
-  below-offset k = rw (next, lt-leb offset (getD qs i 0) k)
-
-  module _ (least : offset ≤ getD qs i 0) where
-    pub past-last : 126 < getD qs i 0 → qualitiesTest floor offset (drop i qs) ≡ refused 16
-    past-last k = rw (next, le-leb offset (getD qs i 0) least, lt-leb (getD qs i 0) 126 k)
-
-    module _ (most : getD qs i 0 ≤ 126) where
-      pub too-low : getD qs i 0 - offset < floor → qualitiesTest floor offset (drop i qs) ≡ ineligible
-      too-low k = rw (next, le-leb offset (getD qs i 0) least, le-leb (getD qs i 0) 126 most, lt-ltb (getD qs i 0 - offset) floor k)
-
-      pub high-enough : floor ≤ getD qs i 0 - offset → qualitiesTest floor offset (drop i qs) ≡ qualitiesTest floor offset (drop (i + 1) qs)
-      high-enough k = rw (next, le-leb offset (getD qs i 0) least, le-leb (getD qs i 0) 126 most, le-ltb (getD qs i 0 - offset) floor k)
-
--- whether the bases from i on are all letters
-abbrev pub letters : List ℕ → Bool
-letters bs = every isBase (map upperOf bs)
-
-module _ (bs : List ℕ) (i : ℕ) (h : i < length bs) where
-  next-letter : letters (drop i bs) ≡ (isBase (upperOf (getD bs i 0)) && letters (drop (i + 1) bs))
-  next-letter = rw (add-one, drop-cons bs i 0)
-
-  pub no-letter : codeOf (getD bs i 0) ≡ mark → letters (drop i bs) ≡ false
-  no-letter e = rw (next-letter, letter-code (getD bs i 0), e)
-
-  pub a-letter : (codeOf (getD bs i 0) ≡ mark → ⊥) → letters (drop i bs) ≡ letters (drop (i + 1) bs)
-  a-letter ne = rw (next-letter, letter-code (getD bs i 0), ne-eqb (codeOf (getD bs i 0)) mark ne)
-
 -- a verdict other than eligible stands
 pub stands : (e : Eligibility) (v : Verdict) → OneOf (0 ∷ 1 ∷ 2 ∷ 3 ∷ []) (tagOf the-type e) → verdictOf e ≡ verdictOf e then v
 stands EmptyRead v k = refl
@@ -69,6 +36,46 @@ goes-on QualityLength v k = absurd (miss (4 ∷ []) 1 tt k)
 goes-on PhredByte v k = absurd (miss (4 ∷ []) 2 tt k)
 goes-on Ineligible v k = absurd (miss (4 ∷ []) 3 tt k)
 goes-on Eligible v k = refl
+
+-- one quality byte
+module _ (floor offset q : ℕ) where
+  pub below-offset : q < offset → refused 16 ≡ qualityTest floor offset q
+  below-offset h = rw (lt-leb offset q h)
+
+  module _ (least : offset ≤ q) where
+    pub past-last : 126 < q → refused 16 ≡ qualityTest floor offset q
+    past-last h = rw (le-leb offset q least, lt-leb q 126 h)
+
+    pub too-low : q ≤ 126 → q - offset < floor → ineligible ≡ qualityTest floor offset q
+    too-low most h = rw (le-leb offset q least, le-leb q 126 most, lt-ltb (q - offset) floor h)
+
+    pub high-enough : q ≤ 126 → floor ≤ q - offset → eligible ≡ qualityTest floor offset q
+    high-enough most h = rw (le-leb offset q least, le-leb q 126 most, le-ltb (q - offset) floor h)
+
+-- the qualities from i on
+module _ (floor offset : ℕ) (qs : List ℕ) (i : ℕ) (h : i < length qs) (e : Eligibility) (judged : verdictOf e ≡ qualityTest floor offset (getD qs i 0)) where
+  next : (verdictOf e then qualitiesTest floor offset (drop (i + 1) qs)) ≡ qualitiesTest floor offset (drop i qs)
+  next = rw (add-one, drop-cons qs i 0) (ap (λ v. v then qualitiesTest floor offset (drop (suc i) qs)) judged)
+
+  pub stops : OneOf (0 ∷ 1 ∷ 2 ∷ 3 ∷ []) (tagOf the-type e) → verdictOf e ≡ qualitiesTest floor offset (drop i qs)
+  stops k = stands e (qualitiesTest floor offset (drop (i + 1) qs)) k ∙ next
+
+  pub passes-on : OneOf (4 ∷ []) (tagOf the-type e) → qualitiesTest floor offset (drop i qs) ≡ qualitiesTest floor offset (drop (i + 1) qs)
+  passes-on k = sym (goes-on e (qualitiesTest floor offset (drop (i + 1) qs)) k ∙ next)
+
+-- whether the bases from i on are all letters
+abbrev pub letters : List ℕ → Bool
+letters bs = every isBase (map upperOf bs)
+
+module _ (bs : List ℕ) (i : ℕ) (h : i < length bs) where
+  next-letter : letters (drop i bs) ≡ (isBase (upperOf (getD bs i 0)) && letters (drop (i + 1) bs))
+  next-letter = rw (add-one, drop-cons bs i 0)
+
+  pub no-letter : codeOf (getD bs i 0) ≡ mark → letters (drop i bs) ≡ false
+  no-letter e = rw (next-letter, letter-code (getD bs i 0), e)
+
+  pub a-letter : (codeOf (getD bs i 0) ≡ mark → ⊥) → letters (drop i bs) ≡ letters (drop (i + 1) bs)
+  a-letter ne = rw (next-letter, letter-code (getD bs i 0), ne-eqb (codeOf (getD bs i 0)) mark ne)
 
 module _ (floor offset : ℕ) (bs : List ℕ) (present : Bool) (qs : List ℕ) where
   -- what given qualities decide

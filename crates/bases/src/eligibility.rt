@@ -4,7 +4,7 @@ ghost use mathlib.Core.List.{map};
 ghost use Rattle.lists.specs.Keep.{every};
 ghost use Rattle.bases.specs.Base.{isBase, upperOf};
 ghost use Rattle.bases.specs.Read.{lent, readOf};
-ghost use Rattle.bases.specs.Eligibility.{verdictOf, qualitiesTest, givenTest, eligibility};
+ghost use Rattle.bases.specs.Eligibility.{verdictOf, qualityTest, qualitiesTest, givenTest, eligibility};
 use crate::base::MARK;
 use crate::base::code;
 
@@ -17,22 +17,32 @@ pub enum Eligibility {
     Eligible,
 }
 
+// What one quality byte decides.
+fn judge_quality(q: u8, floor: u8, offset: u8) -> Eligibility
+    ensures { λ r. ⌜ verdictOf r ≡ qualityTest floor offset q ⌝ }
+{
+    if q < offset {
+        return Eligibility::PhredByte;
+    }
+    if 126 < q {
+        return Eligibility::PhredByte;
+    }
+    if q - offset < floor {
+        return Eligibility::Ineligible;
+    }
+    Eligibility::Eligible
+}
+
 // What the qualities decide, from the left: the first byte that is outside or low.
 fn judge_qualities(qualities: &[u8], floor: u8, offset: u8) -> Eligibility
     ensures { λ r. ⌜ verdictOf r ≡ qualitiesTest floor offset (now (qualities .entry)) ⌝ }
 {
     let mut i = 0;
     while i < qualities.len() {
-        let q = qualities[i];
-        if q < offset {
-            return Eligibility::PhredByte;
-        }
-        if 126 < q {
-            return Eligibility::PhredByte;
-        }
-        if q - offset < floor {
-            return Eligibility::Ineligible;
-        }
+        let judged = judge_quality(qualities[i], floor, offset);
+        let Eligibility::Eligible = judged else {
+            return judged;
+        };
         i += 1;
     }
     Eligibility::Eligible

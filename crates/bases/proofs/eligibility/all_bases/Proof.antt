@@ -1,3 +1,5 @@
+-- `bases::eligibility::all_bases` meets its contract. The invariant: the answer for the bytes from i on is the answer for all.
+-- Assumes nothing.
 use mathlib.Core.Path.{_≡_, refl, sym, ap, _∙_}
 use Prim.Native.Nat.{_-_, _≤_}
 use native.Mathlib.Omega.{arith}
@@ -6,9 +8,6 @@ use lib.ListN.{length, drop, drop-of-length-le}
 use Rattle.bases.proofs.Verdicts.{letters, no-letter, a-letter}
 use Rattle.bases.proofs.eligibility.all_bases.Statement.{statement}
 use Rattle.bases.proofs.eligibility.all_bases.Tie as tie
-use Rattle.bases.proofs.eligibility.all_bases.Reads as reads
-use Rattle.bases.proofs.eligibility.all_bases.Lts as lts
-use Rattle.bases.proofs.base.code.Reads as code-reads
 
 abbrev Inv-loop : tie.InvT-loop
 Inv-loop bases i₀ i = (i ≤ length bases) × (letters bases ≡ letters (drop i bases))
@@ -16,35 +15,27 @@ Inv-loop bases i₀ i = (i ≤ length bases) × (letters bases ≡ letters (drop
 abbrev μ-loop : tie.MeasureT-loop
 μ-loop bases i₀ i = length bases - i
 
--- src/eligibility.rt:46:5
 loop-holds : tie.Need-loop-holds Inv-loop μ-loop
 loop-holds c = (omega arith, refl)
 
--- src/eligibility.rt:47:17
 shared-slice-read-code : tie.Need-shared-slice-read-code Inv-loop μ-loop
 shared-slice-read-code c = omega arith
 
--- src/eligibility.rt:47:12
 code-requires : tie.Need-code-requires Inv-loop μ-loop
 code-requires c κs = search needs
 
--- src/eligibility.rt:48:13
 returns : tie.Need-returns Inv-loop μ-loop
 returns c = sym (c .before .before .before .before .loop .inv .1 ∙ no-letter _ _ (c .before .before .before .loop-test .taken) (sym (c .before .code .ensures) ∙ c .if1 .taken))
 
--- src/eligibility.rt:50:9
 add-i : tie.Need-add-i Inv-loop μ-loop
 add-i c = omega arith
 
--- src/eligibility.rt:46:5
 loop-less : tie.Need-loop-less Inv-loop μ-loop
 loop-less c = omega arith
 
--- src/eligibility.rt:46:5
 loop-again : tie.Need-loop-again Inv-loop μ-loop
 loop-again c = (omega arith, c .before .before .before .before .loop .inv .1 ∙ a-letter _ _ (c .before .before .before .loop-test .taken) (λ e. c .if1 .left (c .before .code .ensures ∙ e)))
 
--- src/eligibility.rt:42:1
 returns-2 : tie.Need-returns-2 Inv-loop μ-loop
 returns-2 c = sym (c .before .loop .inv .1 ∙ ap letters (drop-of-length-le _ (c .loop-test .left)))
 

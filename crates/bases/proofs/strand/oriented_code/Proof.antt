@@ -1,51 +1,39 @@
+-- `bases::strand::oriented_code` meets its contract: past the end, on '+', and on '-', where base i is counted from the other end.
+-- Assumes nothing.
 use mathlib.Core.Path.{ap, _∙_}
 use Rattle.bases.specs.Base.{codeOf}
 use Rattle.bases.proofs.Turning.{past-end, on-plus, on-minus}
 use borrow.Author.Needs.{needs}
 use Rattle.bases.proofs.strand.oriented_code.Statement.{statement}
 use Rattle.bases.proofs.strand.oriented_code.Tie as tie
-use Rattle.bases.proofs.strand.oriented_code.Reads as reads
-use Rattle.bases.proofs.strand.oriented_code.Lts as lts
-use Rattle.bases.proofs.base.code.Reads as code-reads
-use Rattle.bases.proofs.base.complement.Reads as complement-reads
 
--- src/strand.rt:15:9
 returns : tie.Need-returns
 returns c = let a = c .before .before .args in past-end (a .strand) (a .bases .now) (a .i) (c .if1 .taken)
 
--- src/strand.rt:18:14
 shared-slice-read-code : tie.Need-shared-slice-read-code
 shared-slice-read-code c = search needs
 
--- src/strand.rt:18:9
 code-requires : tie.Need-code-requires
 code-requires c κs = search needs
 
--- src/strand.rt:20:31
 sub-complement : tie.Need-sub-complement
 sub-complement c = search needs
 
--- src/strand.rt:20:31
 sub-complement-2 : tie.Need-sub-complement-2
 sub-complement-2 c = search needs
 
--- src/strand.rt:20:25
 shared-slice-read-complement : tie.Need-shared-slice-read-complement
 shared-slice-read-complement c = search needs
 
--- src/strand.rt:20:14
 complement-requires : tie.Need-complement-requires
 complement-requires c κs = search needs
 
--- src/strand.rt:20:9
 code-requires-2 : tie.Need-code-requires-2
 code-requires-2 c κs = search needs
 
--- src/strand.rt:11:1
 returns-2 : tie.Need-returns-2
 returns-2 c = let a = c .before .before .before .before .before .args in c .code .ensures ∙ on-plus (a .strand) (a .bases .now) (a .i) (c .before .before .if2 .taken)
 
--- src/strand.rt:11:1
 returns-3 : tie.Need-returns-3
 returns-3 c = let a = c .before .before .before .before .before .before .args in c .code2 .ensures ∙ ap codeOf (c .before .complement .ensures) ∙ on-minus (a .strand) (a .bases .now) (a .i) (c .before .before .before .if2 .left) (c .before .before .before .before .if1 .left)
 
