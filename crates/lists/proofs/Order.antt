@@ -6,19 +6,14 @@ use mathlib.Core.Logic.{_⊎_, inl, inr, ⊎-elim}
 use mathlib.Core.List.{List, [], _∷_, _++_, map}
 use Rattle.lists.specs.Keep.{keep, consIf}
 use Rattle.lists.specs.Member.{_∈_, Distinct}
-use Rattle.lists.specs.Order.{StrictOrder, Ascending}
-use Rattle.lists.proofs.Cases.{clash}
+use Rattle.lists.specs.Order.{StrictOrder, Total, Apart, Ascending}
+use Rattle.lists.proofs.Cases.{by-test, clash}
 use Rattle.lists.proofs.Member.{append-∈, map-∈}
 use Rattle.lists.proofs.Keep.{keep-∈}
 
--- an order on what f gives of different elements orders the elements
-pub order-by : {A B : Type 0} {less : B → B → Bool} (f : A → B) → ((x y : A) → f x ≡ f y → x ≡ y) → StrictOrder less → StrictOrder (λ (x y : A). less (f x) (f y))
-order-by f injective o =
-    record {
-      irreflexive = λ x. o .irreflexive (f x);
-      transitive = λ x y z h k. o .transitive (f x) (f y) (f z) h k;
-      total = λ x y h k. injective x y (o .total (f x) (f y) h k);
-    }
+-- an order of what f gives of elements orders the elements
+pub order-by : {A B : Type 0} {less : B → B → Bool} (f : A → B) → StrictOrder less → StrictOrder (λ (x y : A). less (f x) (f y))
+order-by f o = record { irreflexive = λ x. o .irreflexive (f x); transitive = λ x y z h k. o .transitive (f x) (f y) (f z) h k }
 
 module _ {A : Type 0} (less : A → A → Bool) where
   pub ascending-append : (xs ys : List A) → Ascending less xs → Ascending less ys → ((x y : A) → x ∈ xs → y ∈ ys → less x y ≡ true) → Ascending less (xs ++ ys)
@@ -34,6 +29,17 @@ module _ {A : Type 0} (less : A → A → Bool) where
       go true k = (λ y m. a .0 y (keep-∈ p y xs m .0), k)
       go false k = k
 
+  -- what ascends is apart, by whatever order that agrees
+  pub ascending-apart : (other : A → A → Bool) → ((x y : A) → other x y ≡ true → (less x y ≡ true) ⊎ (less y x ≡ true)) → (xs : List A) → Ascending other xs → Apart less xs
+  ascending-apart other h [] a = tt
+  ascending-apart other h (x ∷ xs) a = (λ y m. h x y (a .0 y m), ascending-apart other h xs (a .1))
+
+  -- different elements of a total order are apart
+  pub distinct-apart : Total less → (xs : List A) → Distinct xs → Apart less xs
+  distinct-apart total [] d = tt
+  distinct-apart total (x ∷ xs) d =
+      (λ y m. by-test (less x y) (λ e. inl e) (λ e. by-test (less y x) (λ f. inr f) (λ f. absurd (d .0 (rw (total x y e f) m)))), distinct-apart total xs (d .1))
+
   module _ (o : StrictOrder less) where
     -- an ascending list's later elements differ from its first
     pub later-differs : (x z : A) (xs : List A) → Ascending less (x ∷ xs) → z ∈ xs → z ≡ x → ⊥
@@ -42,10 +48,6 @@ module _ {A : Type 0} (less : A → A → Bool) where
     -- two elements are not each before the other
     pub asymmetric : (x y : A) → less x y ≡ true → less y x ≡ true → ⊥
     asymmetric x y h k = clash (o .transitive x y x h k) (o .irreflexive x)
-
-    pub ascending-distinct : (xs : List A) → Ascending less xs → Distinct xs
-    ascending-distinct [] a = tt
-    ascending-distinct (x ∷ xs) a = (λ m. later-differs x x xs a m refl, ascending-distinct xs (a .1))
 
     -- two ascending lists with the same members are equal
     pub ascending-unique : (xs ys : List A) → Ascending less xs → Ascending less ys → ((z : A) → z ∈ xs → z ∈ ys) → ((z : A) → z ∈ ys → z ∈ xs) → xs ≡ ys

@@ -1,4 +1,4 @@
--- The lexicographic order of three numbers is a strict order.
+-- The lexicographic order of three numbers is strict and total.
 -- Assumes nothing.
 use mathlib.Core.Path.{_≡_, refl, sym}
 use mathlib.Core.Bool.{Bool, true, false, _&&_, _||_}
@@ -7,7 +7,7 @@ use Prim.Native.Nat.{ℕ, _<_, _≤_}
 use native.Mathlib.Omega.{arith}
 use lib.Dec.{ltb, eqb}
 use borrow.Author.Tests.{ltb-true, eqb-true, lt-ltb, le-ltb, eq-eqb}
-use Rattle.lists.specs.Order.{StrictOrder}
+use Rattle.lists.specs.Order.{StrictOrder, Total}
 use Rattle.lists.specs.Triple.{Triple, lexicographic}
 use Rattle.lists.proofs.Cases.{by-test, clash, compare}
 
@@ -79,11 +79,13 @@ pub lexicographic-order : StrictOrder lexicographic
 lexicographic-order =
     record {
       irreflexive = λ x. by-test (lexicographic x x) (λ e. absurd (Before-irreflexive x (test-before x x e))) (λ e. e);
-      transitive = λ x y z h k. before-test x z (Before-transitive x y z (test-before x y h) (test-before y z k));
-      total = λ x y h k. total x y h k (compared x y);
+      transitive = λ x y z h k. before-test x z (Before-transitive x y z (test-before x y h) (test-before y z k))
     }
+
+pub lexicographic-total : Total lexicographic
+lexicographic-total x y h k = go (compared x y)
   where
-    total : (x y : Triple) → lexicographic x y ≡ false → lexicographic y x ≡ false → Compared x y → x ≡ y
-    total x y h k (inl b) = clash (before-test x y b) h
-    total x y h k (inr (inl e)) = e
-    total x y h k (inr (inr b)) = clash (before-test y x b) k
+    go : Compared x y → x ≡ y
+    go (inl b) = clash (before-test x y b) h
+    go (inr (inl e)) = e
+    go (inr (inr b)) = clash (before-test y x b) k
