@@ -79,7 +79,7 @@ pub lexicographic-order : StrictOrder lexicographic
 lexicographic-order =
     record {
       irreflexive = λ x. by-test (lexicographic x x) (λ e. absurd (Before-irreflexive x (test-before x x e))) (λ e. e);
-      transitive = λ x y z h k. before-test x z (Before-transitive x y z (test-before x y h) (test-before y z k))
+      transitive = λ x y z h k. before-test x z (Before-transitive x y z (test-before x y h) (test-before y z k));
     }
 
 pub lexicographic-total : Total lexicographic

@@ -4,3 +4,4 @@ pub mod Order
 pub mod Sort
 pub mod Triple
 pub mod Limit
+pub mod Cut

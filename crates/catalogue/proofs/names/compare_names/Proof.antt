@@ -1,0 +1,82 @@
+use Rattle.catalogue.proofs.names.compare_names.Statement.{statement}
+use Rattle.catalogue.proofs.names.compare_names.Tie as tie
+use Rattle.catalogue.proofs.names.compare_names.Reads as reads
+use Rattle.catalogue.proofs.names.compare_names.Lts as lts
+
+abbrev Inv-loop : tie.InvT-loop
+Inv-loop x y i₀ i = ?
+
+abbrev μ-loop : tie.MeasureT-loop
+μ-loop x y i₀ i = ?
+
+-- src/names.rt:35:5
+loop-holds : tie.Need-loop-holds Inv-loop μ-loop
+loop-holds c = ?
+
+-- src/names.rt:37:13
+returns : tie.Need-returns Inv-loop μ-loop
+returns c = ?
+
+-- src/names.rt:39:12
+shared-slice-read-if2 : tie.Need-shared-slice-read-if2 Inv-loop μ-loop
+shared-slice-read-if2 c = ?
+
+-- src/names.rt:39:19
+shared-slice-read-if2-2 : tie.Need-shared-slice-read-if2-2 Inv-loop μ-loop
+shared-slice-read-if2-2 c = ?
+
+-- src/names.rt:40:13
+returns-2 : tie.Need-returns-2 Inv-loop μ-loop
+returns-2 c = ?
+
+-- src/names.rt:42:12
+shared-slice-read-if3 : tie.Need-shared-slice-read-if3 Inv-loop μ-loop
+shared-slice-read-if3 c = ?
+
+-- src/names.rt:42:19
+shared-slice-read-if3-2 : tie.Need-shared-slice-read-if3-2 Inv-loop μ-loop
+shared-slice-read-if3-2 c = ?
+
+-- src/names.rt:43:13
+returns-3 : tie.Need-returns-3 Inv-loop μ-loop
+returns-3 c = ?
+
+-- src/names.rt:45:9
+add-i : tie.Need-add-i Inv-loop μ-loop
+add-i c = ?
+
+-- src/names.rt:35:5
+loop-less : tie.Need-loop-less Inv-loop μ-loop
+loop-less c = ?
+
+-- src/names.rt:35:5
+loop-again : tie.Need-loop-again Inv-loop μ-loop
+loop-again c = ?
+
+-- src/names.rt:48:9
+returns-4 : tie.Need-returns-4 Inv-loop μ-loop
+returns-4 c = ?
+
+-- src/names.rt:31:1
+returns-5 : tie.Need-returns-5 Inv-loop μ-loop
+returns-5 c = ?
+
+pub compare-names-spec : {M : Type 1} → statement M
+compare-names-spec =
+    tie.close
+    (tie.spec
+    Inv-loop
+    μ-loop
+    loop-holds
+    returns
+    shared-slice-read-if2
+    shared-slice-read-if2-2
+    returns-2
+    shared-slice-read-if3
+    shared-slice-read-if3-2
+    returns-3
+    add-i
+    loop-less
+    loop-again
+    returns-4
+    returns-5)

@@ -1,0 +1,27 @@
+-- What ranking a catalogue answers and leaves in its buffer.
+use mathlib.Core.Path.{_≡_}
+use mathlib.Core.List.{List, map}
+use Prim.Native.Nat.{ℕ}
+use lib.ListN.{length, take}
+use Rattle.catalogue.specs.Catalogue.{Catalogue, Target, catalogueRefusal, mapped}
+use Rattle.catalogue.specs.declared.ranks.Ranking.{Ranking}
+use Rattle.catalogue.specs.declared.ranks.Ranking.the-variants.{Refused, Ranked}
+
+-- the refusal that an answer stands for
+abbrev pub rankingRefusal : Ranking → ℕ
+rankingRefusal (Refused n) = n
+rankingRefusal (Ranked k) = 0
+
+-- the first numbers of the buffer are the supplied places of the mapped targets, by rank
+pub record RanksOf (c : Catalogue) (k : ℕ) (buffer : List ℕ) : Type 0 where
+  pub count : k ≡ length (mapped c)
+  pub places : take k buffer ≡ map (λ t. t .place) (mapped c)
+
+-- a valid catalogue is ranked; of the buffer nothing is said where it is refused
+abbrev pub RanksIn : Catalogue → Ranking → List ℕ → Type 0
+RanksIn c (Refused n) buffer = Unit {0}
+RanksIn c (Ranked k) buffer = RanksOf c k buffer
+
+pub record RankedAs (c : Catalogue) (r : Ranking) (buffer : List ℕ) : Type 0 where
+  pub refusal : rankingRefusal r ≡ catalogueRefusal c
+  pub ranks : RanksIn c r buffer

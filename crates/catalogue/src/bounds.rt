@@ -1,0 +1,158 @@
+// Refusals 2 and 3: the bounds of a catalogue, and the bases of its targets.
+ghost use mathlib.Core.Path.{_≡_};
+ghost use mathlib.Core.Bool.{true, _&&_};
+ghost use mathlib.Core.List.{List};
+ghost use Prim.Native.Nat.{ℕ, _≤_, min};
+ghost use lib.ListN.{length};
+ghost use lib.Dec.{leb};
+ghost use Rattle.lists.specs.Keep.{every};
+ghost use Rattle.lists.specs.Cut.{cut, endsWithin};
+ghost use Rattle.bases.specs.Base.{isBase};
+ghost use Rattle.catalogue.specs.Catalogue.{lentCatalogue, countsRight, endsRight, valuesRight, inBounds, properSequence, sequences};
+use bases::base::code;
+
+pub const MAX_TARGETS: usize = 4096;
+
+pub const MAX_IDENTIFIER: usize = 255;
+
+pub const MAX_BASES: usize = 16777216;
+
+// Whether no end falls or passes a bound.
+pub fn ends_within(ends: &[usize], most: usize) -> bool
+    ensures { λ r. ⌜ r ≡ endsWithin 0 most (now (ends .entry)) ⌝ }
+{
+    let mut from = 0;
+    let mut i = 0;
+    while i < ends.len() {
+        let end = ends[i];
+        if end < from {
+            return false;
+        }
+        if most < end {
+            return false;
+        }
+        from = end;
+        i += 1;
+    }
+    true
+}
+
+// Whether no sequence is longer than a bound.
+fn lengths_within(ends: &[usize], bytes: &[u8], most: usize) -> bool
+    requires { ⌜ endsWithin 0 (length (now bytes)) (now ends) ≡ true ⌝ }
+    ensures { λ r. ⌜ r ≡ every (λ (s : List ℕ). leb (length s) most) (cut (now (ends .entry)) (now (bytes .entry))) ⌝ }
+{
+    let mut from = 0;
+    let mut i = 0;
+    while i < ends.len() {
+        let end = ends[i];
+        if most < end - from {
+            return false;
+        }
+        from = end;
+        i += 1;
+    }
+    true
+}
+
+// Whether each mark is 0 or 1.
+fn marks_right(marks: &[u8]) -> bool
+    ensures { λ r. ⌜ r ≡ every (λ m. leb m 1) (now (marks .entry)) ⌝ }
+{
+    let mut i = 0;
+    while i < marks.len() {
+        if 1 < marks[i] {
+            return false;
+        }
+        i += 1;
+    }
+    true
+}
+
+fn least(a: usize, b: usize) -> usize
+    ensures { λ r. ⌜ r ≡ min a b ⌝ }
+{
+    if a < b { a } else { b }
+}
+
+// Whether a catalogue is within its bounds: refusal 2 where it is not.
+pub fn in_bounds(
+    identifiers: &[u8],
+    identifier_ends: &[usize],
+    bases: &[u8],
+    base_ends: &[usize],
+    marks: &[u8],
+) -> bool
+    ensures { λ r. ⌜ r ≡ inBounds (lentCatalogue (now (identifiers .entry)) (now («identifier_ends» .entry)) (now (bases .entry)) (now («base_ends» .entry)) (now (marks .entry))) ⌝ }
+{
+    if MAX_TARGETS < identifier_ends.len() {
+        return false;
+    }
+    if base_ends.len() != identifier_ends.len() {
+        return false;
+    }
+    if marks.len() != identifier_ends.len() {
+        return false;
+    }
+    if !ends_within(identifier_ends, identifiers.len()) {
+        return false;
+    }
+    if !ends_within(base_ends, least(bases.len(), MAX_BASES)) {
+        return false;
+    }
+    if !lengths_within(identifier_ends, identifiers, MAX_IDENTIFIER) {
+        return false;
+    }
+    marks_right(marks)
+}
+
+// Whether a sequence is not empty and all capitals of ACGT.
+pub fn proper_sequence(bases: &[u8]) -> bool
+    ensures { λ r. ⌜ r ≡ properSequence (now (bases .entry)) ⌝ }
+{
+    if bases.len() == 0 {
+        return false;
+    }
+    all_capitals(bases)
+}
+
+fn all_capitals(bases: &[u8]) -> bool
+    ensures { λ r. ⌜ r ≡ every isBase (now (bases .entry)) ⌝ }
+{
+    let mut i = 0;
+    while i < bases.len() {
+        if !is_base(bases[i]) {
+            return false;
+        }
+        i += 1;
+    }
+    true
+}
+
+// A capital has a code and stands below the small letters.
+fn is_base(b: u8) -> bool
+    ensures { λ r. ⌜ r ≡ isBase b ⌝ }
+{
+    if 96 < b {
+        return false;
+    }
+    code(b) < 4
+}
+
+// Whether every target's sequence is proper: refusal 3 where some is not.
+pub fn all_proper(bases: &[u8], ends: &[usize]) -> bool
+    requires { ⌜ endsWithin 0 (length (now bases)) (now ends) ≡ true ⌝ }
+    ensures { λ r. ⌜ r ≡ every properSequence (cut (now (ends .entry)) (now (bases .entry))) ⌝ }
+{
+    let mut from = 0;
+    let mut i = 0;
+    while i < ends.len() {
+        let end = ends[i];
+        if !proper_sequence(&bases[from..end]) {
+            return false;
+        }
+        from = end;
+        i += 1;
+    }
+    true
+}
