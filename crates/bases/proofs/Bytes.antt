@@ -7,7 +7,7 @@ use Prim.Native.Nat.{ℕ, _+_, _-_, _*_, _<_, _≤_}
 use native.Mathlib.Omega.{arith}
 use lib.Dec.{ltb, leb, eqb}
 use lib.ListN.{getD}
-use borrow.Author.Tests.{eqb-true, eq-eqb, ne-eqb, ltb-true, ltb-false, lt-leb}
+use borrow.Author.Tests.{eqb-true, eq-eqb, ne-eqb, ltb-true, ltb-false, leb-true, le-leb, lt-leb}
 use Rattle.lists.specs.Keep.{every}
 use Rattle.lists.proofs.Cases.{by-test, and-true, beq-true, eq-beq}
 use Rattle.lists.proofs.Below.{passesBelow, passes-at, tabulate, tabulate-at}
@@ -106,3 +106,9 @@ letter-complement b =
     beq-true _ _
     (everywhere (λ b. Bool·beq (isBase (upperOf (complementOf b))) (isBase (upperOf b))) refl
     (λ b h. eq-beq _ _ (ap (λ n. isBase (upperOf n)) (complement-above b h))) b)
+
+-- a code is at most the mark
+pub code-le : (b : ℕ) → codeOf b ≤ mark
+unfolding codeOf
+code-le b =
+    leb-true (codeOf b) mark (everywhere (λ b. leb (codeOf b) mark) refl (λ b h. le-leb (codeOf b) mark (omega (arith, code-above b h))) b)

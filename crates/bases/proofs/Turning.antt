@@ -38,6 +38,10 @@ pub length-reverse-complement : (bs : List ℕ) → length (reverseComplement bs
 unfolding reverseComplement
 length-reverse-complement bs = simp (length-reverse, length-map)
 
+pub length-oriented : (s : ℕ) (bs : List ℕ) → length (oriented s bs) ≡ length bs
+length-oriented zero bs = refl
+length-oriented (suc s) bs = length-reverse-complement bs
+
 -- base i of the turned read
 module _ (bs : List ℕ) (i : ℕ) (h : i < length bs) where
   pub turned-at : getD (reverseComplement bs) i 0 ≡ complementOf (getD bs (length bs - suc i) 0)

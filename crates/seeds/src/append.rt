@@ -1,7 +1,9 @@
 // The postings of one sequence, written into three columns.
 ghost use mathlib.Core.Path.{_≡_};
-ghost use Prim.Native.Nat.{_+_, _≤_, _<_};
+ghost use Prim.Native.Nat.{_+_, _-_, _^_, _≤_};
 ghost use lib.ListN.{length, set};
+ghost use Rattle.lists.specs.Cut.{window};
+ghost use Rattle.seeds.specs.Key.{keyOf, SeedIn};
 ghost use Rattle.seeds.specs.Seeds.{starts, seeds, Stored, Room};
 use crate::keys::key_at;
 use crate::keys::key_next;
@@ -25,6 +27,18 @@ fn put(
     positions[at] = position as u64;
 }
 
+// The key at a start, from the key at the one before it; at the first start it is the key itself.
+fn key_on(sequence: &[u8], q: usize, start: usize, high: u64, key: u64) -> u64
+    requires { ⌜ SeedIn (length (now sequence)) q start ⌝ }
+    requires { ⌜ (high ≡ 4 ^ (q - 1)) × (key ≡ keyOf (window (now sequence) (start - 1) q)) ⌝ }
+    ensures { λ r. ⌜ r ≡ keyOf (window (now (sequence .entry)) start q) ⌝ }
+{
+    if start == 0 {
+        return key;
+    }
+    key_next(sequence, 0, q, start - 1, high, key)
+}
+
 // Writes the postings of a sequence from a place of the columns on, and answers the place behind them.
 pub fn append_postings(
     keys: &mut [u64],
@@ -46,10 +60,9 @@ pub fn append_postings(
     let n = sequence.len() - q + 1;
     let high = power(q - 1);
     let mut key = key_at(sequence, 0, q, 0);
-    put(keys, ranks, positions, at, key, rank, 0);
-    let mut i = 1;
+    let mut i = 0;
     while i < n {
-        key = key_next(sequence, 0, q, i - 1, high, key);
+        key = key_on(sequence, q, i, high, key);
         put(keys, ranks, positions, at + i, key, rank, i);
         i += 1;
     }

@@ -1,3 +1,5 @@
+-- `catalogue::names::sequence_at` meets its contract: a sequence by its place.
+-- Assumes nothing.
 use native.Mathlib.Omega.{arith}
 use mathlib.Core.Path.{sym, ap, _∙_}
 use Prim.Native.Nat.{_-_}
@@ -7,35 +9,25 @@ use Rattle.lists.proofs.Cut.{cut-at, ends-at}
 use borrow.Author.Needs.{needs}
 use Rattle.catalogue.proofs.names.sequence_at.Statement.{statement}
 use Rattle.catalogue.proofs.names.sequence_at.Tie as tie
-use Rattle.catalogue.proofs.names.sequence_at.Reads as reads
-use Rattle.catalogue.proofs.names.sequence_at.Lts as lts
-use Rattle.catalogue.proofs.names.start_at.Reads as start-at-reads
 
--- src/names.rt:26:9
 start-at-requires : tie.Need-start-at-requires
 start-at-requires c κs = search needs
 
--- src/names.rt:27:15
 mul-end : tie.Need-mul-end
 mul-end c = search needs
 
--- src/names.rt:27:15
 shared-slice-read-end : tie.Need-shared-slice-read-end
 shared-slice-read-end c = search needs
 
--- src/names.rt:28:5
 sub-result : tie.Need-sub-result
 sub-result c = let a = c .before .before .before .before .args in let e = ends-at 0 (length (a .bytes .now)) (a .ends .now) (c .before .before .before .before .pre .0) (a .i) (c .before .before .before .before .pre .1) in omega (arith, c .before .start-at .ensures)
 
--- src/names.rt:28:5
 part-result-start : tie.Need-part-result-start
 part-result-start c = let a = c .before .before .before .before .args in let e = ends-at 0 (length (a .bytes .now)) (a .ends .now) (c .before .before .before .before .pre .0) (a .i) (c .before .before .before .before .pre .1) in omega (arith, c .before .start-at .ensures)
 
--- src/names.rt:28:5
 part-result-end : tie.Need-part-result-end
 part-result-end c = let a = c .before .before .before .before .args in let e = ends-at 0 (length (a .bytes .now)) (a .ends .now) (c .before .before .before .before .pre .0) (a .i) (c .before .before .before .before .pre .1) in omega (arith, c .before .start-at .ensures)
 
--- src/names.rt:22:1
 returns : tie.Need-returns
 returns c = let a = c .before .before .before .before .before .args in ap (λ n. window (a .bytes .now) n (getD (a .ends .now) (a .i) 0 - n)) (c .before .before .start-at .ensures) ∙ sym (cut-at 0 (a .ends .now) (a .bytes .now) (a .i) (c .before .before .before .before .before .pre .1))
 
