@@ -34,6 +34,15 @@ module _ {A : Type 0} (less : A → A → Bool) where
   ascending-apart other h [] a = tt
   ascending-apart other h (x ∷ xs) a = (λ y m. h x y (a .0 y m), ascending-apart other h xs (a .1))
 
+  -- what passes a test of elements that are apart is apart
+  pub apart-keep : (p : A → Bool) (xs : List A) → Apart less xs → Apart less (keep p xs)
+  apart-keep p [] a = tt
+  apart-keep p (x ∷ xs) a = go (p x) (apart-keep p xs (a .1))
+    where
+      go : (b : Bool) → Apart less (keep p xs) → Apart less (consIf b x (keep p xs))
+      go true k = (λ y m. a .0 y (keep-∈ p y xs m .0), k)
+      go false k = k
+
   -- different elements of a total order are apart
   pub distinct-apart : Total less → (xs : List A) → Distinct xs → Apart less xs
   distinct-apart total [] d = tt
