@@ -1,11 +1,23 @@
 -- What ranking a catalogue answers and leaves in its buffer.
 use mathlib.Core.Path.{_≡_}
+use mathlib.Core.Bool.{Bool}
 use mathlib.Core.List.{List, map}
 use Prim.Native.Nat.{ℕ}
-use lib.ListN.{length, take}
+use lib.ListN.{length, getD, take}
+use lib.Dec.{eqb}
+use Rattle.lists.specs.Keep.{keep}
 use Rattle.catalogue.specs.Catalogue.{Catalogue, Target, catalogueRefusal, mapped}
 use Rattle.catalogue.specs.declared.ranks.Ranking.{Ranking}
 use Rattle.catalogue.specs.declared.ranks.Ranking.the-variants.{Refused, Ranked}
+
+-- the mark at a place says linear
+abbrev pub linearAt : List ℕ → ℕ → Bool
+linearAt marks p = eqb (getD marks p 0) 0
+
+-- the first r numbers of a buffer are the linear places of an order, in that order
+pub record Kept (marks order : List ℕ) (r : ℕ) (buffer : List ℕ) : Type 0 where
+  pub count : r ≡ length (keep (linearAt marks) order)
+  pub places : take r buffer ≡ keep (linearAt marks) order
 
 -- the refusal that an answer stands for
 abbrev pub rankingRefusal : Ranking → ℕ

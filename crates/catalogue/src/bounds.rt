@@ -9,6 +9,7 @@ ghost use Rattle.lists.specs.Keep.{every};
 ghost use Rattle.lists.specs.Cut.{cut, endsWithin};
 ghost use Rattle.bases.specs.Base.{isBase};
 ghost use Rattle.catalogue.specs.Catalogue.{lentCatalogue, countsRight, endsRight, valuesRight, inBounds, properSequence, sequences};
+use bases::base::MARK;
 use bases::base::code;
 
 pub const MAX_TARGETS: usize = 4096;
@@ -136,7 +137,7 @@ fn is_base(b: u8) -> bool
     if 96 < b {
         return false;
     }
-    code(b) < 4
+    code(b) != MARK
 }
 
 // Whether every target's sequence is proper: refusal 3 where some is not.

@@ -1,12 +1,12 @@
 // Ranks: the places of the mapped targets in the order of their names, or the catalogue's refusal.
 ghost use mathlib.Core.Path.{_≡_};
-ghost use mathlib.Core.Bool.{true};
-ghost use Prim.Native.Nat.{_<_, _≤_};
-ghost use lib.ListN.{length, getD, take};
-ghost use lib.Dec.{eqb, ltb};
-ghost use Rattle.lists.specs.Keep.{keep, every};
+ghost use mathlib.Core.Bool.{true, cond};
+ghost use Prim.Native.Nat.{_+_, _<_, _≤_};
+ghost use lib.ListN.{length, set};
+ghost use lib.Dec.{ltb};
+ghost use Rattle.lists.specs.Keep.{every};
 ghost use Rattle.catalogue.specs.Catalogue.{lentCatalogue};
-ghost use Rattle.catalogue.specs.Ranking.{RankedAs};
+ghost use Rattle.catalogue.specs.Ranking.{Kept, RankedAs};
 use crate::bounds::all_proper;
 use crate::bounds::in_bounds;
 use crate::order::order_names;
@@ -17,19 +17,28 @@ pub enum Ranking {
     Ranked(usize),
 }
 
+// Puts a place behind those kept if it is linear, and answers how many are kept then.
+fn keep_place(order: &mut [usize], kept: usize, place: usize, linear: bool) -> usize
+    requires { ⌜ kept < length (now order) ⌝ }
+    ensures { λ r. ⌜ (r ≡ cond linear (kept + 1) kept) × (now (order .exit) ≡ cond linear (set (now (order .entry)) kept place) (now (order .entry))) ⌝ }
+{
+    if linear {
+        order[kept] = place;
+        return kept + 1;
+    }
+    kept
+}
+
 // Moves the places of linear targets to the front, in their order, and answers how many there are.
 fn keep_linear(order: &mut [usize], marks: &[u8]) -> usize
     requires { ⌜ every (λ p. ltb p (length (now marks))) (now order) ≡ true ⌝ }
-    ensures { λ r. ⌜ (r ≡ length (keep (λ p. eqb (getD (now (marks .entry)) p 0) 0) (now (order .entry)))) × (take r (now (order .exit)) ≡ keep (λ p. eqb (getD (now (marks .entry)) p 0) 0) (now (order .entry))) ⌝ }
+    ensures { λ r. ⌜ Kept (now (marks .entry)) (now (order .entry)) r (now (order .exit)) ⌝ }
 {
     let mut kept = 0;
     let mut i = 0;
     while i < order.len() {
         let place = order[i];
-        if marks[place] == 0 {
-            order[kept] = place;
-            kept += 1;
-        }
+        kept = keep_place(order, kept, place, marks[place] == 0);
         i += 1;
     }
     kept

@@ -2,10 +2,12 @@ pub mod Cases
 pub mod Below
 pub mod Member
 pub mod Keep
+pub mod Every
 pub mod Order
 pub mod Sort
 pub mod Triple
 pub mod Limit
 pub mod Part
 pub mod Reverse
+pub mod Cut
 pub mod Runs

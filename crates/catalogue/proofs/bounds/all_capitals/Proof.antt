@@ -1,3 +1,12 @@
+use native.Mathlib.Omega.{arith}
+use borrow.Author.Needs.{needs}
+use mathlib.Core.Path.{_≡_, refl, sym, ap, _∙_}
+use Prim.Native.Nat.{ℕ, _≤_, _-_, _+_}
+use lib.ListN.{length, drop}
+use borrow.Author.Tests.{not-true, not-false}
+use Rattle.lists.specs.Keep.{every}
+use Rattle.lists.proofs.Every.{every-fails, every-passes, every-end}
+use Rattle.bases.specs.Base.{isBase}
 use Rattle.catalogue.proofs.bounds.all_capitals.Statement.{statement}
 use Rattle.catalogue.proofs.bounds.all_capitals.Tie as tie
 use Rattle.catalogue.proofs.bounds.all_capitals.Reads as reads
@@ -5,42 +14,42 @@ use Rattle.catalogue.proofs.bounds.all_capitals.Lts as lts
 use Rattle.catalogue.proofs.bounds.is_base.Reads as is-base-reads
 
 abbrev Inv-loop : tie.InvT-loop
-Inv-loop bases i₀ i = ?
+Inv-loop bases i₀ i = (i ≤ length bases) × (every isBase bases ≡ every isBase (drop i bases))
 
 abbrev μ-loop : tie.MeasureT-loop
-μ-loop bases i₀ i = ?
+μ-loop bases i₀ i = length bases - i
 
 -- src/bounds.rt:115:5
 loop-holds : tie.Need-loop-holds Inv-loop μ-loop
-loop-holds c = ?
+loop-holds c = (omega arith, refl)
 
 -- src/bounds.rt:116:21
 shared-slice-read-is-base : tie.Need-shared-slice-read-is-base Inv-loop μ-loop
-shared-slice-read-is-base c = ?
+shared-slice-read-is-base c = search needs
 
 -- src/bounds.rt:116:13
 is-base-requires : tie.Need-is-base-requires Inv-loop μ-loop
-is-base-requires c κs = ?
+is-base-requires c κs = search needs
 
 -- src/bounds.rt:117:13
 returns : tie.Need-returns Inv-loop μ-loop
-returns c = ?
+returns c = let a = c .before .before .before .before .before .before .args in sym (c .before .before .before .before .loop .inv .1 ∙ every-fails isBase 0 (a .bases .now) _ (c .before .before .before .loop-test .taken) (sym (c .before .is-base .ensures) ∙ not-true _ (c .if1 .taken)))
 
 -- src/bounds.rt:119:9
 add-i : tie.Need-add-i Inv-loop μ-loop
-add-i c = ?
+add-i c = search needs
 
 -- src/bounds.rt:115:5
 loop-less : tie.Need-loop-less Inv-loop μ-loop
-loop-less c = ?
+loop-less c = search needs
 
 -- src/bounds.rt:115:5
 loop-again : tie.Need-loop-again Inv-loop μ-loop
-loop-again c = ?
+loop-again c = let a = c .before .before .before .before .before .before .args in (omega arith, c .before .before .before .before .loop .inv .1 ∙ every-passes isBase 0 (a .bases .now) _ (c .before .before .before .loop-test .taken) (sym (c .before .is-base .ensures) ∙ not-false _ (c .if1 .left)))
 
 -- src/bounds.rt:111:1
 returns-2 : tie.Need-returns-2 Inv-loop μ-loop
-returns-2 c = ?
+returns-2 c = let a = c .before .before .before .args in sym (c .before .loop .inv .1 ∙ every-end isBase (a .bases .now) _ (c .loop-test .left))
 
 pub all-capitals-spec : {M : Type 1} → statement M
 all-capitals-spec =

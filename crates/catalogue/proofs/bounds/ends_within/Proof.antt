@@ -1,49 +1,56 @@
+use native.Mathlib.Omega.{arith}
+use borrow.Author.Needs.{needs}
+use mathlib.Core.Path.{_≡_, refl, sym, ap, _∙_}
+use Prim.Native.Nat.{ℕ, _≤_, _-_, _+_}
+use lib.ListN.{length, drop, drop-of-length-le, getD}
+use Rattle.lists.specs.Cut.{endsWithin}
+use Rattle.lists.proofs.Cut.{falls, passes-most, stays-within}
 use Rattle.catalogue.proofs.bounds.ends_within.Statement.{statement}
 use Rattle.catalogue.proofs.bounds.ends_within.Tie as tie
 use Rattle.catalogue.proofs.bounds.ends_within.Reads as reads
 use Rattle.catalogue.proofs.bounds.ends_within.Lts as lts
 
 abbrev Inv-loop : tie.InvT-loop
-Inv-loop ends most from₀ i₀ from i = ?
+Inv-loop ends most from₀ i₀ from i = (i ≤ length ends) × (endsWithin 0 most ends ≡ endsWithin from most (drop i ends))
 
 abbrev μ-loop : tie.MeasureT-loop
-μ-loop ends most from₀ i₀ from i = ?
+μ-loop ends most from₀ i₀ from i = length ends - i
 
 -- src/bounds.rt:24:5
 loop-holds : tie.Need-loop-holds Inv-loop μ-loop
-loop-holds c = ?
+loop-holds c = (omega arith, refl)
 
 -- src/bounds.rt:25:19
 mul-end : tie.Need-mul-end Inv-loop μ-loop
-mul-end c = ?
+mul-end c = search needs
 
 -- src/bounds.rt:25:19
 shared-slice-read-end : tie.Need-shared-slice-read-end Inv-loop μ-loop
-shared-slice-read-end c = ?
+shared-slice-read-end c = search needs
 
 -- src/bounds.rt:27:13
 returns : tie.Need-returns Inv-loop μ-loop
-returns c = ?
+returns c = let a = c .before .before .before .before .args in sym (c .before .before .before .loop .inv .1 ∙ falls _ _ (a .ends .now) _ (c .before .before .loop-test .taken) (c .if1 .taken))
 
 -- src/bounds.rt:30:13
 returns-2 : tie.Need-returns-2 Inv-loop μ-loop
-returns-2 c = ?
+returns-2 c = let a = c .before .before .before .before .before .args in sym (c .before .before .before .before .loop .inv .1 ∙ passes-most _ _ (a .ends .now) _ (c .before .before .before .loop-test .taken) (c .before .if1 .left) (c .if2 .taken))
 
 -- src/bounds.rt:33:9
 add-i : tie.Need-add-i Inv-loop μ-loop
-add-i c = ?
+add-i c = search needs
 
 -- src/bounds.rt:24:5
 loop-less : tie.Need-loop-less Inv-loop μ-loop
-loop-less c = ?
+loop-less c = search needs
 
 -- src/bounds.rt:24:5
 loop-again : tie.Need-loop-again Inv-loop μ-loop
-loop-again c = ?
+loop-again c = let a = c .before .before .before .before .before .args in (omega arith, c .before .before .before .before .loop .inv .1 ∙ stays-within _ _ (a .ends .now) _ (c .before .before .before .loop-test .taken) (c .before .if1 .left) (c .if2 .left))
 
 -- src/bounds.rt:19:1
 returns-3 : tie.Need-returns-3 Inv-loop μ-loop
-returns-3 c = ?
+returns-3 c = sym (c .before .loop .inv .1 ∙ ap (endsWithin _ _) (drop-of-length-le _ (c .loop-test .left)))
 
 pub ends-within-spec : {M : Type 1} → statement M
 ends-within-spec =

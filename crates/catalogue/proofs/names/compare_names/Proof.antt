@@ -1,65 +1,69 @@
+use borrow.Author.Needs.{needs}
+use Prim.Native.Nat.{_≤_, _-_, _+_}
+use lib.ListN.{length}
+use Rattle.catalogue.proofs.Naming.{Comparing, comparing-start, second-ends, less-byte, more-byte, same-byte, first-ends, both-end}
 use Rattle.catalogue.proofs.names.compare_names.Statement.{statement}
 use Rattle.catalogue.proofs.names.compare_names.Tie as tie
 use Rattle.catalogue.proofs.names.compare_names.Reads as reads
 use Rattle.catalogue.proofs.names.compare_names.Lts as lts
 
 abbrev Inv-loop : tie.InvT-loop
-Inv-loop x y i₀ i = ?
+Inv-loop x y i₀ i = Comparing x y i
 
 abbrev μ-loop : tie.MeasureT-loop
-μ-loop x y i₀ i = ?
+μ-loop x y i₀ i = length x - i
 
 -- src/names.rt:35:5
 loop-holds : tie.Need-loop-holds Inv-loop μ-loop
-loop-holds c = ?
+loop-holds c = comparing-start _ _
 
 -- src/names.rt:37:13
 returns : tie.Need-returns Inv-loop μ-loop
-returns c = ?
+returns c = let a = c .before .before .before .args in second-ends (a .x .now) (a .y .now) _ (c .before .before .loop .inv) (c .before .loop-test .taken) (c .if1 .taken)
 
 -- src/names.rt:39:12
 shared-slice-read-if2 : tie.Need-shared-slice-read-if2 Inv-loop μ-loop
-shared-slice-read-if2 c = ?
+shared-slice-read-if2 c = search needs
 
 -- src/names.rt:39:19
 shared-slice-read-if2-2 : tie.Need-shared-slice-read-if2-2 Inv-loop μ-loop
-shared-slice-read-if2-2 c = ?
+shared-slice-read-if2-2 c = search needs
 
 -- src/names.rt:40:13
 returns-2 : tie.Need-returns-2 Inv-loop μ-loop
-returns-2 c = ?
+returns-2 c = let a = c .before .before .before .before .before .before .args in less-byte (a .x .now) (a .y .now) _ (c .before .before .before .before .before .loop .inv) (c .before .before .before .before .loop-test .taken) (c .before .before .before .if1 .left) (c .if2 .taken)
 
 -- src/names.rt:42:12
 shared-slice-read-if3 : tie.Need-shared-slice-read-if3 Inv-loop μ-loop
-shared-slice-read-if3 c = ?
+shared-slice-read-if3 c = search needs
 
 -- src/names.rt:42:19
 shared-slice-read-if3-2 : tie.Need-shared-slice-read-if3-2 Inv-loop μ-loop
-shared-slice-read-if3-2 c = ?
+shared-slice-read-if3-2 c = search needs
 
 -- src/names.rt:43:13
 returns-3 : tie.Need-returns-3 Inv-loop μ-loop
-returns-3 c = ?
+returns-3 c = let a = c .before .before .before .before .before .before .before .before .before .args in more-byte (a .x .now) (a .y .now) _ (c .before .before .before .before .before .before .before .before .loop .inv) (c .before .before .before .before .before .before .before .loop-test .taken) (c .before .before .before .before .before .before .if1 .left) (c .if3 .taken)
 
 -- src/names.rt:45:9
 add-i : tie.Need-add-i Inv-loop μ-loop
-add-i c = ?
+add-i c = search needs
 
 -- src/names.rt:35:5
 loop-less : tie.Need-loop-less Inv-loop μ-loop
-loop-less c = ?
+loop-less c = search needs
 
 -- src/names.rt:35:5
 loop-again : tie.Need-loop-again Inv-loop μ-loop
-loop-again c = ?
+loop-again c = let a = c .before .before .before .before .before .before .before .before .before .args in same-byte (a .x .now) (a .y .now) _ (c .before .before .before .before .before .before .before .before .loop .inv) (c .before .before .before .before .before .before .before .loop-test .taken) (c .before .before .before .before .before .before .if1 .left) (c .before .before .before .if2 .left) (c .if3 .left)
 
 -- src/names.rt:48:9
 returns-4 : tie.Need-returns-4 Inv-loop μ-loop
-returns-4 c = ?
+returns-4 c = let a = c .before .before .before .args in first-ends (a .x .now) (a .y .now) _ (c .before .before .loop .inv) (c .before .loop-test .left) (c .if4 .taken)
 
 -- src/names.rt:31:1
 returns-5 : tie.Need-returns-5 Inv-loop μ-loop
-returns-5 c = ?
+returns-5 c = let a = c .before .before .before .args in both-end (a .x .now) (a .y .now) _ (c .before .before .loop .inv) (c .before .loop-test .left) (c .if4 .left)
 
 pub compare-names-spec : {M : Type 1} → statement M
 compare-names-spec =

@@ -1,65 +1,52 @@
+use native.Mathlib.Omega.{arith}
+use mathlib.Core.Path.{sym, ap, _∙_}
+use Prim.Native.Nat.{_-_}
+use lib.ListN.{length, getD}
+use Rattle.lists.specs.Cut.{window}
+use Rattle.lists.proofs.Cut.{cut-at, ends-at}
 use borrow.Author.Needs.{needs}
 use Rattle.catalogue.proofs.names.sequence_at.Statement.{statement}
 use Rattle.catalogue.proofs.names.sequence_at.Tie as tie
 use Rattle.catalogue.proofs.names.sequence_at.Reads as reads
 use Rattle.catalogue.proofs.names.sequence_at.Lts as lts
+use Rattle.catalogue.proofs.names.start_at.Reads as start-at-reads
 
--- src/names.rt:15:15
+-- src/names.rt:26:9
+start-at-requires : tie.Need-start-at-requires
+start-at-requires c κs = search needs
+
+-- src/names.rt:27:15
 mul-end : tie.Need-mul-end
 mul-end c = search needs
 
--- src/names.rt:15:15
+-- src/names.rt:27:15
 shared-slice-read-end : tie.Need-shared-slice-read-end
 shared-slice-read-end c = search needs
 
--- src/names.rt:17:9
-slice-aggregate-result : tie.Need-slice-aggregate-result
-slice-aggregate-result c = ?
-
--- src/names.rt:17:9
-returns : tie.Need-returns
-returns c = ?
-
--- src/names.rt:19:21
-sub-from : tie.Need-sub-from
-sub-from c = search needs
-
--- src/names.rt:19:16
-mul-from : tie.Need-mul-from
-mul-from c = search needs
-
--- src/names.rt:19:16
-shared-slice-read-from : tie.Need-shared-slice-read-from
-shared-slice-read-from c = search needs
-
--- src/names.rt:20:5
+-- src/names.rt:28:5
 sub-result : tie.Need-sub-result
-sub-result c = ?
+sub-result c = let a = c .before .before .before .before .args in let e = ends-at 0 (length (a .bytes .now)) (a .ends .now) (c .before .before .before .before .pre .0) (a .i) (c .before .before .before .before .pre .1) in omega (arith, c .before .start-at .ensures)
 
--- src/names.rt:20:5
+-- src/names.rt:28:5
 part-result-start : tie.Need-part-result-start
-part-result-start c = ?
+part-result-start c = let a = c .before .before .before .before .args in let e = ends-at 0 (length (a .bytes .now)) (a .ends .now) (c .before .before .before .before .pre .0) (a .i) (c .before .before .before .before .pre .1) in omega (arith, c .before .start-at .ensures)
 
--- src/names.rt:20:5
+-- src/names.rt:28:5
 part-result-end : tie.Need-part-result-end
-part-result-end c = ?
+part-result-end c = let a = c .before .before .before .before .args in let e = ends-at 0 (length (a .bytes .now)) (a .ends .now) (c .before .before .before .before .pre .0) (a .i) (c .before .before .before .before .pre .1) in omega (arith, c .before .start-at .ensures)
 
--- src/names.rt:11:1
-returns-2 : tie.Need-returns-2
-returns-2 c = ?
+-- src/names.rt:22:1
+returns : tie.Need-returns
+returns c = let a = c .before .before .before .before .before .args in ap (λ n. window (a .bytes .now) n (getD (a .ends .now) (a .i) 0 - n)) (c .before .before .start-at .ensures) ∙ sym (cut-at 0 (a .ends .now) (a .bytes .now) (a .i) (c .before .before .before .before .before .pre .1))
 
 pub sequence-at-spec : {M : Type 1} → statement M
 sequence-at-spec =
     tie.close
     (tie.spec
+    start-at-requires
     mul-end
     shared-slice-read-end
-    slice-aggregate-result
-    returns
-    sub-from
-    mul-from
-    shared-slice-read-from
     sub-result
     part-result-start
     part-result-end
-    returns-2)
+    returns)

@@ -1,0 +1,37 @@
+use mathlib.Core.Path.{sym, ap}
+use mathlib.Core.Bool.{cond}
+use Prim.Native.Nat.{_+_}
+use lib.ListN.{set}
+use borrow.Author.Needs.{needs}
+use Rattle.catalogue.proofs.ranks.keep_place.Statement.{statement}
+use Rattle.catalogue.proofs.ranks.keep_place.Tie as tie
+use Rattle.catalogue.proofs.ranks.keep_place.Reads as reads
+use Rattle.catalogue.proofs.ranks.keep_place.Lts as lts
+
+-- src/ranks.rt:26:9
+mul-order : tie.Need-mul-order
+mul-order c = search needs
+
+-- src/ranks.rt:26:9
+slice-write-order : tie.Need-slice-write-order
+slice-write-order c = search needs
+
+-- src/ranks.rt:27:16
+add-result : tie.Need-add-result
+add-result c = search needs
+
+-- src/ranks.rt:27:9
+same-length : tie.Need-same-length
+same-length c = search needs
+
+-- src/ranks.rt:27:9
+returns : tie.Need-returns
+returns c = let a = c .before .args in let e = sym (c .if1 .taken) in (ap (λ t. cond t (a .kept + 1) (a .kept)) e, ap (λ t. cond t (set (a .order .now) (a .kept) (a .place)) (a .order .now)) e)
+
+-- src/ranks.rt:21:1
+returns-2 : tie.Need-returns-2
+returns-2 c = search needs
+
+pub keep-place-spec : {M : Type 1} → statement M
+keep-place-spec =
+    tie.close (tie.spec mul-order slice-write-order add-result same-length returns returns-2)

@@ -1,0 +1,1 @@
+// The seeds of a catalogue: keys, and the index, built, tested and looked up.

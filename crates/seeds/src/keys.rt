@@ -1,0 +1,47 @@
+// The key of a seed, computed afresh and rolled on by one base, for a sequence as it lies on a strand.
+ghost use mathlib.Core.Path.{_≡_};
+ghost use Prim.Native.Nat.{_+_, _-_, _^_, _<_};
+ghost use lib.ListN.{length};
+ghost use Rattle.lists.specs.Cut.{window};
+ghost use Rattle.bases.specs.Read.{oriented};
+ghost use Rattle.seeds.specs.Key.{keyOf, SeedIn};
+use bases::strand::oriented_code;
+
+// 4 to the power n.
+pub fn power(n: usize) -> u64
+    requires { ⌜ n < 31 ⌝ }
+    ensures { λ r. ⌜ r ≡ 4 ^ n ⌝ }
+{
+    let mut p: u64 = 1;
+    let mut i = 0;
+    while i < n {
+        p *= 4;
+        i += 1;
+    }
+    p
+}
+
+// The key of the q bases at a start.
+pub fn key_at(sequence: &[u8], strand: u64, q: usize, start: usize) -> u64
+    requires { ⌜ SeedIn (length (now sequence)) q start ⌝ }
+    ensures { λ r. ⌜ r ≡ keyOf (window (oriented strand (now (sequence .entry))) start q) ⌝ }
+{
+    let mut key: u64 = 0;
+    let mut i = 0;
+    while i < q {
+        key = key * 4 + oriented_code(sequence, strand, start + i);
+        i += 1;
+    }
+    key
+}
+
+// From the key at a start to the key at the next one; high is 4 to the power q - 1, what the first digit counts.
+pub fn key_next(sequence: &[u8], strand: u64, q: usize, start: usize, high: u64, key: u64) -> u64
+    requires { ⌜ SeedIn (length (now sequence)) q (start + 1) ⌝ }
+    requires { ⌜ (high ≡ 4 ^ (q - 1)) × (key ≡ keyOf (window (oriented strand (now sequence)) start q)) ⌝ }
+    ensures { λ r. ⌜ r ≡ keyOf (window (oriented strand (now (sequence .entry))) (start + 1) q) ⌝ }
+{
+    let first = oriented_code(sequence, strand, start);
+    let last = oriented_code(sequence, strand, start + q);
+    (key - first * high) * 4 + last
+}
