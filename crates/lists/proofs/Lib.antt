@@ -10,3 +10,4 @@ pub mod Limit
 pub mod Part
 pub mod Reverse
 pub mod Cut
+pub mod Runs
