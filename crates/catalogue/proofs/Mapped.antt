@@ -1,23 +1,23 @@
 -- The mapped targets of a catalogue: their ranks, and that the order of supply changes nothing but places.
 -- Assumes nothing.
 use mathlib.Core.Path.{_≡_, refl, sym, ap, ap₂, _∙_}
-use mathlib.Core.Bool.{Bool, true, false}
+use mathlib.Core.Bool.{Bool, true, false, not}
 use mathlib.Core.Logic.{_⊎_, inl, inr, ⊎-elim}
 use mathlib.Core.List.{List, [], _∷_, map}
 use Prim.Native.Nat.{ℕ, zero, suc, _+_, _<_, _≤_}
 use native.Mathlib.Omega.{arith}
 use lib.ListN.{length, getD}
 use lib.Dec.{eqb}
-use Rattle.lists.specs.Keep.{keep}
+use Rattle.lists.specs.Keep.{keep, every}
 use Rattle.lists.specs.Member.{_∈_}
 use Rattle.lists.specs.Order.{StrictOrder, Apart, Ascending}
 use Rattle.lists.specs.Sort.{sort}
-use Rattle.lists.proofs.Cases.{by-test, clash, compare}
+use Rattle.lists.proofs.Cases.{by-test, clash, compare, and-true}
 use Rattle.lists.proofs.Member.{∈-map, map-∈}
 use Rattle.lists.proofs.Keep.{∈-keep, keep-∈}
 use Rattle.lists.proofs.Order.{order-by, ascending-keep, ascending-map, ascending-unique, apart-keep}
 use Rattle.lists.proofs.Sort.{sort-ascending, ∈-sort, sort-∈}
-use Rattle.catalogue.specs.Name.{nameBefore, distinctNames}
+use Rattle.catalogue.specs.Name.{nameBefore, sameName, distinctNames}
 use Rattle.catalogue.specs.Ordered.{numbers, placeBefore}
 use Rattle.catalogue.specs.Catalogue.{Catalogue, Target, targetsFrom, targets, names, sequences, isMapped, byName, mapped}
 use Rattle.catalogue.specs.Ranking.{linearAt}
@@ -26,18 +26,21 @@ use Rattle.catalogue.proofs.Merging.{numbers-∈}
 
 -- ---- targets by place
 
+abbrev target : ℕ → List ℕ → ℕ → List ℕ → Target
+target p n m s = record { place = p; identifier = n; mark = m; bases = s }
+
 -- the j-th target of those from place k on
 abbrev pub targetAt : ℕ → List (List ℕ) → List (List ℕ) → List ℕ → ℕ → Target
-targetAt k ns ss ms j = record { place = k + j; identifier = getD ns j []; mark = getD ms j 0; bases = getD ss j [] }
+targetAt k ns ss ms j = target (k + j) (getD ns j []) (getD ms j 0) (getD ss j [])
 
 targets-∈ : (k : ℕ) (ns ss : List (List ℕ)) (ms : List ℕ) (t : Target) → t ∈ targetsFrom k ns ss ms → (j : ℕ) × (j < length ns) × (t ≡ targetAt k ns ss ms j)
 targets-∈ k (n ∷ ns) (s ∷ ss) (m ∷ ms) t (inl e) =
     let z : k ≡ k + 0 = omega arith in
-    (0, omega arith, e ∙ ap (λ p. record { place = p; identifier = n; mark = m; bases = s }) z)
+    (0, omega arith, e ∙ ap (λ p. target p n m s) z)
 targets-∈ k (n ∷ ns) (s ∷ ss) (m ∷ ms) t (inr h) =
     let r = targets-∈ (suc k) ns ss ms t h in
     let z : suc k + r .0 ≡ k + suc (r .0) = omega arith in
-    (suc (r .0), omega arith, r .2 ∙ ap (λ p. record { place = p; identifier = getD ns (r .0) []; mark = getD ms (r .0) 0; bases = getD ss (r .0) [] }) z)
+    (suc (r .0), omega arith, r .2 ∙ ap (λ p. target p (getD ns (r .0) []) (getD ms (r .0) 0) (getD ss (r .0) [])) z)
 
 ∈-targets : (k : ℕ) (ns ss : List (List ℕ)) (ms : List ℕ) → length ss ≡ length ns → length ms ≡ length ns → (j : ℕ) → j < length ns → targetAt k ns ss ms j ∈ targetsFrom k ns ss ms
 ∈-targets k [] ss ms e f j h = absurd (omega arith)
@@ -45,8 +48,128 @@ targets-∈ k (n ∷ ns) (s ∷ ss) (m ∷ ms) t (inr h) =
 ∈-targets k (n ∷ ns) (s ∷ ss) [] e f j h = absurd (omega arith)
 ∈-targets k (n ∷ ns) (s ∷ ss) (m ∷ ms) e f zero h =
     let z : k + 0 ≡ k = omega arith in
-    inl (ap (λ p. record { place = p; identifier = n; mark = m; bases = s }) z)
+    inl (ap (λ p. target p n m s) z)
 ∈-targets k (n ∷ ns) (s ∷ ss) (m ∷ ms) e f (suc j) h =
     let z : suc k + j ≡ k + suc j = omega arith in
     let r = ∈-targets (suc k) ns ss ms (omega arith) (omega arith) j (omega arith) in
-    inr (rw (ap (λ p. record { place = p; identifier = getD ns j []; mark = getD ms j 0; bases = getD ss j [] }) z) at r)
+    inr (rw (ap (λ p. target p (getD ns j []) (getD ms j 0) (getD ss j [])) z) at r)
+
+-- ---- names that differ
+
+module _ (ns : List (List ℕ)) (distinct : distinctNames ns ≡ true) where
+  -- of two places the one name is before the other
+  names-apart : (i j : ℕ) → i < length ns → j < length ns → (i ≡ j → ⊥) → (placeBefore ns i j ≡ true) ⊎ (placeBefore ns j i ≡ true)
+  names-apart i j hi hj ne =
+      by-test (placeBefore ns i j) (λ e. inl e) (λ e. by-test (placeBefore ns j i) (λ f. inr f) (λ f. absurd (differ (compare i j) (name-total (getD ns i []) (getD ns j []) e f))))
+    where
+      differ : (i < j) ⊎ ((i ≡ j) ⊎ (j < i)) → getD ns i [] ≡ getD ns j [] → ⊥
+      differ (inl h) e = clash distinct (two-same ns i j h hj e)
+      differ (inr (inl h)) e = ne h
+      differ (inr (inr h)) e = clash distinct (two-same ns j i h hi (sym e))
+
+  numbers-apart : (k n : ℕ) → k + n ≤ length ns → Apart (placeBefore ns) (numbers k n)
+  numbers-apart k zero h = tt
+  numbers-apart k (suc n) h =
+      (λ j m. let r = numbers-∈ (suc k) n j m in names-apart k j (omega arith) (omega arith) (λ e. omega arith), numbers-apart (suc k) n (omega arith))
+
+∈-numbers : (k n x : ℕ) → k ≤ x → x < k + n → x ∈ numbers k n
+∈-numbers k zero x h l = absurd (omega arith)
+∈-numbers k (suc n) x h l = ⊎-elim (λ m. absurd (omega arith)) (λ m. ⊎-elim (λ e. inl (sym e)) (λ m. inr (∈-numbers (suc k) n x m (omega arith))) m) (compare′ (compare k x))
+  where
+    compare′ : (k < x) ⊎ ((k ≡ x) ⊎ (x < k)) → (x < k) ⊎ ((k ≡ x) ⊎ (suc k ≤ x))
+    compare′ (inl m) = inr (inr m)
+    compare′ (inr (inl e)) = inr (inl e)
+    compare′ (inr (inr m)) = inl m
+
+targets-apart : (k : ℕ) (ns′ ss′ : List (List ℕ)) (ms′ : List ℕ) → distinctNames ns′ ≡ true → Apart byName (targetsFrom k ns′ ss′ ms′)
+targets-apart k [] ss′ ms′ d = tt
+targets-apart k (n ∷ ns′) [] ms′ d = tt
+targets-apart k (n ∷ ns′) (s ∷ ss′) [] d = tt
+targets-apart k (n ∷ ns′) (s ∷ ss′) (m ∷ ms′) d =
+    (λ t h. let r = targets-∈ (suc k) ns′ ss′ ms′ t h in rw (ap (λ u. u .identifier) (r .2)) (names-apart (n ∷ ns′) d 0 (suc (r .0)) (omega arith) (omega arith) (λ e. omega arith)), targets-apart (suc k) ns′ ss′ ms′ (and-true (every (λ y. not (sameName n y)) ns′) (distinctNames ns′) d .1))
+
+-- ---- ranks
+
+module _ (ns ss : List (List ℕ)) (ms : List ℕ) (sequenced : length ss ≡ length ns) (marked : length ms ≡ length ns) (distinct : distinctNames ns ≡ true) where
+  -- a target is the one at its place
+  at-place : (t : Target) → t ∈ targetsFrom 0 ns ss ms → (t .place < length ns) × (t ≡ targetAt 0 ns ss ms (t .place))
+  at-place t m =
+      let r = targets-∈ 0 ns ss ms t m in
+      let p : t .place ≡ r .0 = ap (λ u. u .place) (r .2) ∙ zero-more (r .0) in
+      (omega (arith, r .1), r .2 ∙ ap (λ j. targetAt 0 ns ss ms j) (sym p))
+    where
+      zero-more : (j : ℕ) → 0 + j ≡ j
+      zero-more j = omega arith
+
+  named : (t : Target) → t ∈ targetsFrom 0 ns ss ms → t .identifier ≡ getD ns (t .place) []
+  named t m = ap (λ u. u .identifier) (at-place t m .1)
+
+  abbrev ranked : List Target
+  ranked = sort byName (keep isMapped (targetsFrom 0 ns ss ms))
+
+  ranked-ascending : Ascending byName ranked
+  ranked-ascending = sort-ascending byName (order-by (λ t. t .identifier) name-order) (keep isMapped (targetsFrom 0 ns ss ms)) (apart-keep byName isMapped (targetsFrom 0 ns ss ms) (targets-apart 0 ns ss ms distinct))
+
+  ranked-∈ : (t : Target) → t ∈ ranked → (t ∈ targetsFrom 0 ns ss ms) × (isMapped t ≡ true)
+  ranked-∈ t m = keep-∈ isMapped t (targetsFrom 0 ns ss ms) (sort-∈ byName t (keep isMapped (targetsFrom 0 ns ss ms)) m)
+
+  -- the places of the mapped targets by rank are the linear places in the order of their names
+  pub places-ranked : keep (linearAt ms) (sort (placeBefore ns) (numbers 0 (length ns))) ≡ map (λ t. t .place) ranked
+  places-ranked =
+      ascending-unique (placeBefore ns) (place-order ns) (keep (linearAt ms) (sort (placeBefore ns) (numbers 0 (length ns)))) (map (λ t. t .place) ranked)
+      (ascending-keep (placeBefore ns) (linearAt ms) (sort (placeBefore ns) (numbers 0 (length ns))) (sort-ascending (placeBefore ns) (place-order ns) (numbers 0 (length ns)) (numbers-apart ns distinct 0 (length ns) (omega arith))))
+      (ascending-map byName (placeBefore ns) (λ t. t .place) ranked (λ t u m k h. ordered t u (ranked-∈ t m .0) (ranked-∈ u k .0) h) ranked-ascending)
+      to from
+    where
+      ordered : (t u : Target) → t ∈ targetsFrom 0 ns ss ms → u ∈ targetsFrom 0 ns ss ms → byName t u ≡ true → placeBefore ns (t .place) (u .place) ≡ true
+      ordered t u m k h = ap₂ (λ x y. nameBefore x y) (sym (named t m)) (sym (named u k)) ∙ h
+
+      to : (p : ℕ) → p ∈ keep (linearAt ms) (sort (placeBefore ns) (numbers 0 (length ns))) → p ∈ map (λ t. t .place) ranked
+      to p m =
+          let k = keep-∈ (linearAt ms) p (sort (placeBefore ns) (numbers 0 (length ns))) m in
+          let r = numbers-∈ 0 (length ns) p (sort-∈ (placeBefore ns) p (numbers 0 (length ns)) (k .0)) in
+          let t = targetAt 0 ns ss ms p in
+          let z : p ≡ 0 + p = omega arith in
+          rw z (∈-map (λ t. t .place) t ranked (∈-sort byName t (keep isMapped (targetsFrom 0 ns ss ms)) (∈-keep isMapped t (targetsFrom 0 ns ss ms) (∈-targets 0 ns ss ms sequenced marked p (omega arith)) (k .1))))
+
+      from : (p : ℕ) → p ∈ map (λ t. t .place) ranked → p ∈ keep (linearAt ms) (sort (placeBefore ns) (numbers 0 (length ns)))
+      from p m =
+          let r = map-∈ (λ t. t .place) p ranked m in
+          let q = ranked-∈ (r .0) (r .1) in
+          let a = at-place (r .0) (q .0) in
+          let l : p < length ns = omega (arith, a .0, r .2) in
+          ∈-keep (linearAt ms) p (sort (placeBefore ns) (numbers 0 (length ns))) (∈-sort (placeBefore ns) p (numbers 0 (length ns)) (∈-numbers 0 (length ns) p (omega arith) (omega arith)))
+          (ap (λ n. eqb (getD ms n 0) 0) (r .2) ∙ ap isMapped (sym (a .1)) ∙ q .1)
+
+-- ---- the mapped targets of a catalogue
+
+module _ (c : Catalogue) where
+  -- each linear target has a rank, and no other
+  pub mapped-∈ : (t : Target) → t ∈ mapped c → (t ∈ targets c) × (isMapped t ≡ true)
+  unfolding mapped
+  mapped-∈ t m = keep-∈ isMapped t (targets c) (sort-∈ byName t (keep isMapped (targets c)) m)
+
+  pub ∈-mapped : (t : Target) → t ∈ targets c → isMapped t ≡ true → t ∈ mapped c
+  unfolding mapped
+  ∈-mapped t m h = ∈-sort byName t (keep isMapped (targets c)) (∈-keep isMapped t (targets c) m h)
+
+  -- ranks ascend by name, so that no target has two
+  pub mapped-ascending : distinctNames (names c) ≡ true → Ascending byName (mapped c)
+  unfolding mapped
+  mapped-ascending d = sort-ascending byName (order-by (λ t. t .identifier) name-order) (keep isMapped (targets c)) (apart-keep byName isMapped (targets c) (targets-apart 0 (names c) (sequences c) (c .marks) d))
+
+-- what a target is, but for its place
+abbrev pub content : Target → List ℕ × List ℕ
+content t = (t .identifier, t .bases)
+
+-- catalogues with the same linear targets have the same ones at each rank, in whatever order they are supplied
+pub supply-free : (c d : Catalogue) → distinctNames (names c) ≡ true → distinctNames (names d) ≡ true
+    → ((t : Target) → t ∈ mapped c → (u : Target) × (u ∈ mapped d) × (content t ≡ content u)) → ((u : Target) → u ∈ mapped d → (t : Target) × (t ∈ mapped c) × (content u ≡ content t))
+    → map content (mapped c) ≡ map content (mapped d)
+supply-free c d dc dd f g =
+    ascending-unique (λ (x y : List ℕ × List ℕ). nameBefore (x .0) (y .0)) (order-by (λ (x : List ℕ × List ℕ). x .0) name-order) (map content (mapped c)) (map content (mapped d)) (ascends c dc) (ascends d dd)
+    (λ z m. let r = map-∈ content z (mapped c) m in let u = f (r .0) (r .1) in rw (r .2 ∙ u .2) (∈-map content (u .0) (mapped d) (u .1)))
+    (λ z m. let r = map-∈ content z (mapped d) m in let t = g (r .0) (r .1) in rw (r .2 ∙ t .2) (∈-map content (t .0) (mapped c) (t .1)))
+  where
+    ascends : (k : Catalogue) → distinctNames (names k) ≡ true → Ascending (λ (x y : List ℕ × List ℕ). nameBefore (x .0) (y .0)) (map content (mapped k))
+    ascends k dk = ascending-map byName (λ (x y : List ℕ × List ℕ). nameBefore (x .0) (y .0)) content (mapped k) (λ t u m l h. h) (mapped-ascending k dk)

@@ -6,6 +6,10 @@ use Prim.Native.Nat.{ℕ}
 use lib.ListN.{length, getD, take}
 use lib.Dec.{eqb}
 use Rattle.lists.specs.Keep.{keep}
+use Rattle.lists.specs.Sort.{sort}
+use Rattle.catalogue.specs.Refusal.{unless}
+use Rattle.catalogue.specs.Name.{distinctNames}
+use Rattle.catalogue.specs.Ordered.{numbers, placeBefore}
 use Rattle.catalogue.specs.Catalogue.{Catalogue, Target, catalogueRefusal, mapped}
 use Rattle.catalogue.specs.declared.ranks.Ranking.{Ranking}
 use Rattle.catalogue.specs.declared.ranks.Ranking.the-variants.{Refused, Ranked}
@@ -23,6 +27,15 @@ pub record Kept (marks order : List ℕ) (r : ℕ) (buffer : List ℕ) : Type 0 
 abbrev pub rankingRefusal : Ranking → ℕ
 rankingRefusal (Refused n) = n
 rankingRefusal (Ranked k) = 0
+
+-- of names that differ, the linear places in the order of the names; 4 where two names are equal
+abbrev pub LinearIn : List (List ℕ) → List ℕ → Ranking → List ℕ → Type 0
+LinearIn names marks (Refused n) buffer = Unit {0}
+LinearIn names marks (Ranked k) buffer = Kept marks (sort (placeBefore names) (numbers 0 (length names))) k buffer
+
+pub record NamesRanked (names : List (List ℕ)) (marks : List ℕ) (r : Ranking) (buffer : List ℕ) : Type 0 where
+  pub refusal : rankingRefusal r ≡ unless (distinctNames names) 4
+  pub ranks : LinearIn names marks r buffer
 
 -- the first numbers of the buffer are the supplied places of the mapped targets, by rank
 pub record RanksOf (c : Catalogue) (k : ℕ) (buffer : List ℕ) : Type 0 where

@@ -5,8 +5,9 @@ ghost use Prim.Native.Nat.{_+_, _<_, _≤_};
 ghost use lib.ListN.{length, set};
 ghost use lib.Dec.{ltb};
 ghost use Rattle.lists.specs.Keep.{every};
+ghost use Rattle.lists.specs.Cut.{cut, endsWithin};
 ghost use Rattle.catalogue.specs.Catalogue.{lentCatalogue};
-ghost use Rattle.catalogue.specs.Ranking.{Kept, RankedAs};
+ghost use Rattle.catalogue.specs.Ranking.{Kept, NamesRanked, RankedAs};
 use crate::bounds::all_proper;
 use crate::bounds::in_bounds;
 use crate::order::order_names;
@@ -44,6 +45,18 @@ fn keep_linear(order: &mut [usize], marks: &[u8]) -> usize
     kept
 }
 
+// Puts the linear places into the order of their names, unless two names are equal.
+fn rank_names(order: &mut [usize], identifiers: &[u8], ends: &[usize], marks: &[u8]) -> Ranking
+    requires { ⌜ endsWithin 0 (length (now identifiers)) (now ends) ≡ true ⌝ }
+    requires { ⌜ (length (now order) ≡ length (now ends)) × ((length (now marks) ≡ length (now ends)) × (length (now ends) ≤ 4096)) ⌝ }
+    ensures { λ r. ⌜ NamesRanked (cut (now (ends .entry)) (now (identifiers .entry))) (now (marks .entry)) r (now (order .exit)) ⌝ }
+{
+    if !order_names(order, identifiers, ends) {
+        return Ranking::Refused(4);
+    }
+    Ranking::Ranked(keep_linear(order, marks))
+}
+
 // Tests a catalogue, and puts the supplied place of each rank into the buffer.
 pub fn rank_targets(
     ranked: &mut [usize],
@@ -63,8 +76,5 @@ pub fn rank_targets(
         return Ranking::Refused(3);
     }
     let n = identifier_ends.len();
-    if !order_names(&mut ranked[..n], identifiers, identifier_ends) {
-        return Ranking::Refused(4);
-    }
-    Ranking::Ranked(keep_linear(&mut ranked[..n], marks))
+    rank_names(&mut ranked[..n], identifiers, identifier_ends, marks)
 }

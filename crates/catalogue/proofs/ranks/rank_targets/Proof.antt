@@ -1,68 +1,42 @@
+-- `catalogue::ranks::rank_targets` meets its contract, by the checks in their order.
+-- Assumes nothing.
+use native.Mathlib.Omega.{arith}
+use mathlib.Core.Path.{sym, _∙_}
+use lib.Seq.{length-take-le}
+use borrow.Author.Tests.{not-true, not-false}
+use Rattle.catalogue.specs.Catalogue.{Catalogue}
+use Rattle.catalogue.proofs.Checks.{bounded}
+use Rattle.catalogue.proofs.Refusals.{out-of-bounds, bad-bases, ranked-as}
 use borrow.Author.Needs.{needs}
 use Rattle.catalogue.proofs.ranks.rank_targets.Statement.{statement}
 use Rattle.catalogue.proofs.ranks.rank_targets.Tie as tie
-use Rattle.catalogue.proofs.ranks.rank_targets.Reads as reads
-use Rattle.catalogue.proofs.ranks.rank_targets.Lts as lts
-use Rattle.catalogue.proofs.bounds.all_proper.Reads as all-proper-reads
-use Rattle.catalogue.proofs.bounds.in_bounds.Reads as in-bounds-reads
-use Rattle.catalogue.proofs.order.order_names.Reads as order-names-reads
-use Rattle.catalogue.proofs.ranks.keep_linear.Reads as keep-linear-reads
 
--- src/ranks.rt:59:9
 in-bounds-requires : tie.Need-in-bounds-requires
 in-bounds-requires c κs = search needs
 
--- src/ranks.rt:60:9
 returns : tie.Need-returns
-returns c = ?
+returns c = let a = c .before .before .before .before .before .before .before .before .args in let k : Catalogue = record { identifiers = a .identifiers .now; identifierEnds = a .identifier-ends .now; bases = a .bases .now; baseEnds = a .base-ends .now; marks = a .marks .now } in out-of-bounds k (sym (c .before .in-bounds .ensures) ∙ not-true _ (c .if1 .taken)) _
 
--- src/ranks.rt:62:9
 all-proper-requires : tie.Need-all-proper-requires
-all-proper-requires c κs = ?
+all-proper-requires c κs = let a = c .before .before .before .before .before .before .before .before .args in let k : Catalogue = record { identifiers = a .identifiers .now; identifierEnds = a .identifier-ends .now; bases = a .bases .now; baseEnds = a .base-ends .now; marks = a .marks .now } in let w = sym (c .before .in-bounds .ensures) ∙ not-false _ (c .if1 .left) in bounded k w .based
 
--- src/ranks.rt:63:9
 returns-2 : tie.Need-returns-2
-returns-2 c = ?
+returns-2 c = let a = c .before .before .before .before .before .before .before .before .before .before .args in let k : Catalogue = record { identifiers = a .identifiers .now; identifierEnds = a .identifier-ends .now; bases = a .bases .now; baseEnds = a .base-ends .now; marks = a .marks .now } in let w = sym (c .before .before .before .in-bounds .ensures) ∙ not-false _ (c .before .before .if1 .left) in bad-bases k w (sym (c .before .all-proper .ensures) ∙ not-true _ (c .if2 .taken)) _
 
--- src/ranks.rt:66:21
-slice-relend-prefix-order-names : tie.Need-slice-relend-prefix-order-names
-slice-relend-prefix-order-names c = ?
+slice-relend-prefix-rank-names : tie.Need-slice-relend-prefix-rank-names
+slice-relend-prefix-rank-names c = let a = c .before .before .before .before .before .before .before .before .before .before .args in let k : Catalogue = record { identifiers = a .identifiers .now; identifierEnds = a .identifier-ends .now; bases = a .bases .now; baseEnds = a .base-ends .now; marks = a .marks .now } in let w = sym (c .before .before .before .in-bounds .ensures) ∙ not-false _ (c .before .before .if1 .left) in omega (arith, bounded k w .few, c .before .before .before .before .before .before .before .before .before .before .pre)
 
--- src/ranks.rt:66:21
-slice-aggregate-order-names : tie.Need-slice-aggregate-order-names
-slice-aggregate-order-names c = ?
+slice-aggregate-rank-names : tie.Need-slice-aggregate-rank-names
+slice-aggregate-rank-names c = let a = c .before .before .before .before .before .before .before .before .before .before .before .args in let k : Catalogue = record { identifiers = a .identifiers .now; identifierEnds = a .identifier-ends .now; bases = a .bases .now; baseEnds = a .base-ends .now; marks = a .marks .now } in let w = sym (c .before .before .before .before .in-bounds .ensures) ∙ not-false _ (c .before .before .before .if1 .left) in sym (length-take-le _ _ (omega (arith, bounded k w .few, c .before .before .before .before .before .before .before .before .before .before .before .pre)))
 
--- src/ranks.rt:66:9
-order-names-requires : tie.Need-order-names-requires
-order-names-requires c κs = ?
+rank-names-requires : tie.Need-rank-names-requires
+rank-names-requires c κs = let a = c .before .before .before .before .before .before .before .before .before .before .before .args in let k : Catalogue = record { identifiers = a .identifiers .now; identifierEnds = a .identifier-ends .now; bases = a .bases .now; baseEnds = a .base-ends .now; marks = a .marks .now } in let w = sym (c .before .before .before .before .in-bounds .ensures) ∙ not-false _ (c .before .before .before .if1 .left) in let b = bounded k w in (b .named, (length-take-le _ _ (omega (arith, b .few, c .before .before .before .before .before .before .before .before .before .before .before .pre)), (b .marked, b .few)))
 
--- src/ranks.rt:67:9
 same-length : tie.Need-same-length
 same-length c = search needs
 
--- src/ranks.rt:67:9
 returns-3 : tie.Need-returns-3
-returns-3 c = ?
-
--- src/ranks.rt:69:33
-slice-relend-prefix-keep-linear : tie.Need-slice-relend-prefix-keep-linear
-slice-relend-prefix-keep-linear c = ?
-
--- src/ranks.rt:69:33
-slice-aggregate-keep-linear : tie.Need-slice-aggregate-keep-linear
-slice-aggregate-keep-linear c = ?
-
--- src/ranks.rt:69:21
-keep-linear-requires : tie.Need-keep-linear-requires
-keep-linear-requires c κs = ?
-
--- src/ranks.rt:48:1
-same-length-2 : tie.Need-same-length-2
-same-length-2 c = search needs
-
--- src/ranks.rt:48:1
-returns-4 : tie.Need-returns-4
-returns-4 c = ?
+returns-3 c = let a = c .before .before .before .before .before .before .before .before .before .before .before .before .before .before .args in let k : Catalogue = record { identifiers = a .identifiers .now; identifierEnds = a .identifier-ends .now; bases = a .bases .now; baseEnds = a .base-ends .now; marks = a .marks .now } in let w = sym (c .before .before .before .before .before .before .before .in-bounds .ensures) ∙ not-false _ (c .before .before .before .before .before .before .if1 .left) in let p = sym (c .before .before .before .before .before .all-proper .ensures) ∙ not-false _ (c .before .before .before .before .if2 .left) in ranked-as k w p (c .before .before .rank-names .result) (c .before .before .rank-names .last .0) _ (c .before .before .rank-names .kept .0 ∙ length-take-le _ _ (omega (arith, bounded k w .few, c .before .before .before .before .before .before .before .before .before .before .before .before .before .before .pre))) (c .before .before .rank-names .ensures)
 
 pub rank-targets-spec : {M : Type 1} → statement M
 rank-targets-spec =
@@ -72,13 +46,8 @@ rank-targets-spec =
     returns
     all-proper-requires
     returns-2
-    slice-relend-prefix-order-names
-    slice-aggregate-order-names
-    order-names-requires
+    slice-relend-prefix-rank-names
+    slice-aggregate-rank-names
+    rank-names-requires
     same-length
-    returns-3
-    slice-relend-prefix-keep-linear
-    slice-aggregate-keep-linear
-    keep-linear-requires
-    same-length-2
-    returns-4)
+    returns-3)

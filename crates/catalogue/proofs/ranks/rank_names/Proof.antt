@@ -1,0 +1,41 @@
+-- `catalogue::ranks::rank_names` meets its contract: equal names are refused, others put in order and filtered.
+-- Assumes nothing.
+use native.Mathlib.Omega.{arith}
+use mathlib.Core.Path.{sym, ap, _∙_}
+use borrow.Author.Tests.{not-true, not-false}
+use Rattle.lists.specs.Keep.{every}
+use Rattle.lists.specs.Cut.{cut}
+use Rattle.lists.proofs.Cut.{length-cut}
+use Rattle.catalogue.proofs.Refusals.{names-refused, names-ranked, places-below}
+use borrow.Author.Needs.{needs}
+use Rattle.catalogue.proofs.ranks.rank_names.Statement.{statement}
+use Rattle.catalogue.proofs.ranks.rank_names.Tie as tie
+
+order-names-requires : tie.Need-order-names-requires
+order-names-requires c κs = search needs
+
+same-length : tie.Need-same-length
+same-length c = search needs
+
+returns : tie.Need-returns
+returns c = let a = c .before .before .before .before .before .before .before .before .before .args in let ns = cut (a .ends .now) (a .identifiers .now) in let o = c .before .before .before .order-names .ensures in names-refused ns (a .marks .now) (sym (o .distinct) ∙ not-true _ (c .if1 .taken)) _
+
+keep-linear-requires : tie.Need-keep-linear-requires
+keep-linear-requires c κs = let a = c .before .before .before .before .before .before .before .before .before .before .args in let ns = cut (a .ends .now) (a .identifiers .now) in let o = c .before .before .before .before .order-names .ensures in ap (every _) (o .places (not-false _ (c .before .if1 .left))) ∙ places-below ns _ (omega (arith, length-cut 0 (a .ends .now) (a .identifiers .now), c .before .before .before .before .before .before .before .before .before .before .pre .1 .1 .0))
+
+same-length-2 : tie.Need-same-length-2
+same-length-2 c = search needs
+
+returns-2 : tie.Need-returns-2
+returns-2 c = let a = c .before .before .before .before .before .before .before .before .before .before .before .before .before .args in let ns = cut (a .ends .now) (a .identifiers .now) in let o = c .before .before .before .before .before .before .before .order-names .ensures in let d = not-false _ (c .before .before .before .before .if1 .left) in names-ranked ns (a .marks .now) (sym (o .distinct) ∙ d) _ _ _ (o .places d) (c .before .before .keep-linear .ensures)
+
+pub rank-names-spec : {M : Type 1} → statement M
+rank-names-spec =
+    tie.close
+    (tie.spec
+    order-names-requires
+    same-length
+    returns
+    keep-linear-requires
+    same-length-2
+    returns-2)
