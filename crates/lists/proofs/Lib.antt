@@ -11,3 +11,4 @@ pub mod Part
 pub mod Reverse
 pub mod Cut
 pub mod Runs
+pub mod Same

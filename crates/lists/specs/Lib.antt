@@ -5,3 +5,4 @@ pub mod Sort
 pub mod Triple
 pub mod Limit
 pub mod Cut
+pub mod Same

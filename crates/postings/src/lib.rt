@@ -1,1 +1,5 @@
-// The seeds of a catalogue: keys, and the index, built, tested and looked up.
+// The index of a catalogue: planned, built, tested and looked up.
+pub mod build;
+pub mod index;
+pub mod lookup;
+pub mod ranked;
