@@ -8,3 +8,4 @@ pub mod Triple
 pub mod Limit
 pub mod Part
 pub mod Reverse
+pub mod Permutation

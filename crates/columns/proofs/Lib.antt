@@ -1,0 +1,6 @@
+pub mod Range
+pub mod Rows
+pub mod Order
+pub mod Parting
+pub mod Dividing
+pub mod Joining
