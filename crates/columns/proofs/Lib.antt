@@ -1,6 +1,7 @@
 pub mod Range
 pub mod Rows
 pub mod Order
+pub mod Climbing
 pub mod Parting
 pub mod Dividing
 pub mod Joining
