@@ -3,12 +3,13 @@ pub mod Below
 pub mod Member
 pub mod Keep
 pub mod Every
+pub mod Same
 pub mod Order
 pub mod Sort
+pub mod Permutation
 pub mod Triple
 pub mod Limit
 pub mod Part
 pub mod Reverse
 pub mod Cut
 pub mod Runs
-pub mod Same

@@ -1,0 +1,9 @@
+pub mod Range
+pub mod Rows
+pub mod Order
+pub mod Tails
+pub mod Climbing
+pub mod Settling
+pub mod Parting
+pub mod Dividing
+pub mod Joining

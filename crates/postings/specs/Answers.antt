@@ -1,0 +1,1 @@
+-- What the public calls answer.
