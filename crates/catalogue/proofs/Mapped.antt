@@ -6,6 +6,7 @@ use mathlib.Core.Logic.{_⊎_, inl, inr, ⊎-elim}
 use mathlib.Core.List.{List, [], _∷_, map}
 use Prim.Native.Nat.{ℕ, zero, suc, _+_, _<_, _≤_}
 use native.Mathlib.Omega.{arith}
+use native.Mathlib.Nat.{zero-add}
 use lib.ListN.{length, getD}
 use lib.Dec.{eqb}
 use Rattle.lists.specs.Keep.{keep, every}
@@ -19,8 +20,10 @@ use Rattle.lists.proofs.Order.{order-by, ascending-keep, ascending-map, ascendi
 use Rattle.lists.proofs.Sort.{sort-ascending, ∈-sort, sort-∈}
 use Rattle.catalogue.specs.Name.{nameBefore, sameName, distinctNames}
 use Rattle.catalogue.specs.Ordered.{numbers, placeBefore}
-use Rattle.catalogue.specs.Catalogue.{Catalogue, Target, targetsFrom, targets, names, sequences, isMapped, byName, mapped}
+use Rattle.catalogue.specs.Catalogue.{Catalogue, Target, targetsFrom, targets, names, sequences, isMapped, byName, inBounds, mapped}
 use Rattle.catalogue.specs.Ranking.{linearAt}
+use Rattle.lists.proofs.Cut.{length-cut}
+use Rattle.catalogue.proofs.Checks.{bounded}
 use Rattle.catalogue.proofs.NameLaws.{name-order, name-total, place-order, two-same}
 use Rattle.catalogue.proofs.Merging.{numbers-∈}
 
@@ -95,11 +98,8 @@ module _ (ns ss : List (List ℕ)) (ms : List ℕ) (sequenced : length ss ≡ le
   at-place : (t : Target) → t ∈ targetsFrom 0 ns ss ms → (t .place < length ns) × (t ≡ targetAt 0 ns ss ms (t .place))
   at-place t m =
       let r = targets-∈ 0 ns ss ms t m in
-      let p : t .place ≡ r .0 = ap (λ u. u .place) (r .2) ∙ zero-more (r .0) in
+      let p : t .place ≡ r .0 = ap (λ u. u .place) (r .2) ∙ zero-add (r .0) in
       (omega (arith, r .1), r .2 ∙ ap (λ j. targetAt 0 ns ss ms j) (sym p))
-    where
-      zero-more : (j : ℕ) → 0 + j ≡ j
-      zero-more j = omega arith
 
   named : (t : Target) → t ∈ targetsFrom 0 ns ss ms → t .identifier ≡ getD ns (t .place) []
   named t m = ap (λ u. u .identifier) (at-place t m .1)
@@ -157,6 +157,14 @@ module _ (c : Catalogue) where
   pub mapped-ascending : distinctNames (names c) ≡ true → Ascending byName (mapped c)
   unfolding mapped
   mapped-ascending d = sort-ascending byName (order-by (λ t. t .identifier) name-order) (keep isMapped (targets c)) (apart-keep byName isMapped (targets c) (targets-apart 0 (names c) (sequences c) (c .marks) d))
+
+-- a target's place is one of the catalogue's, and has its sequence
+pub at-its-place : (c : Catalogue) → inBounds c ≡ true → (t : Target) → t ∈ targets c → (t .place < length (c .baseEnds)) × (t .bases ≡ getD (sequences c) (t .place) [])
+at-its-place c within t m =
+    let b = bounded c within in
+    let r = targets-∈ 0 (names c) (sequences c) (c .marks) t m in
+    let z : t .place ≡ r .0 = ap (λ u. u .place) (r .2) ∙ zero-add (r .0) in
+    (omega (arith, r .1, b .sequenced, length-cut 0 (c .identifierEnds) (c .identifiers)), ap (λ u. u .bases) (r .2) ∙ ap (λ j. getD (sequences c) j []) (sym z))
 
 -- what a target is, but for its place
 abbrev pub content : Target → List ℕ × List ℕ

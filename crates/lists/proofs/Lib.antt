@@ -11,5 +11,6 @@ pub mod Triple
 pub mod Limit
 pub mod Part
 pub mod Reverse
+pub mod Places
 pub mod Cut
 pub mod Runs

@@ -1,8 +1,11 @@
--- Membership in joined and mapped lists.
+-- Membership in joined and mapped lists, and by place.
 -- Assumes nothing.
 use mathlib.Core.Path.{_≡_, refl, ap}
 use mathlib.Core.Logic.{_⊎_, inl, inr, ⊎-elim}
 use mathlib.Core.List.{List, [], _∷_, _++_, map}
+use Prim.Native.Nat.{ℕ, zero, suc, _<_}
+use native.Mathlib.Omega.{arith}
+use lib.ListN.{length, getD}
 use Rattle.lists.specs.Member.{_∈_}
 
 module _ {A : Type 0} where
@@ -18,6 +21,15 @@ module _ {A : Type 0} where
   append-∈ x [] ys m = inr m
   append-∈ x (z ∷ xs) ys (inl e) = inl (inl e)
   append-∈ x (z ∷ xs) ys (inr m) = ⊎-elim (λ k. inl (inr k)) (λ k. inr k) (append-∈ x xs ys m)
+
+  pub getD-∈ : (d : A) (xs : List A) (i : ℕ) → i < length xs → getD xs i d ∈ xs
+  getD-∈ d [] i h = absurd (omega arith)
+  getD-∈ d (x ∷ xs) zero h = inl refl
+  getD-∈ d (x ∷ xs) (suc i) h = inr (getD-∈ d xs i (omega arith))
+
+  pub ∈-getD : (d x : A) (xs : List A) → x ∈ xs → (i : ℕ) × (i < length xs) × (x ≡ getD xs i d)
+  ∈-getD d x (y ∷ xs) (inl e) = (0, omega arith, e)
+  ∈-getD d x (y ∷ xs) (inr m) = let r = ∈-getD d x xs m in (suc (r .0), omega arith, r .2)
 
 module _ {A B : Type 0} (f : A → B) where
   pub ∈-map : (x : A) (xs : List A) → x ∈ xs → f x ∈ map f xs

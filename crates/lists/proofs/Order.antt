@@ -1,14 +1,17 @@
--- Ascending lists: joined, filtered, mapped; two with the same members are one list.
+-- Ascending lists: joined, filtered, mapped, by their places; two with the same members are one list.
 -- Assumes nothing.
 use mathlib.Core.Path.{_≡_, refl, sym, ap₂, _∙_}
 use mathlib.Core.Bool.{Bool, true, false}
 use mathlib.Core.Logic.{_⊎_, inl, inr, ⊎-elim}
 use mathlib.Core.List.{List, [], _∷_, _++_, map}
+use Prim.Native.Nat.{ℕ, zero, suc, _<_}
+use native.Mathlib.Omega.{arith}
+use lib.ListN.{length, getD}
 use Rattle.lists.specs.Keep.{keep, consIf}
 use Rattle.lists.specs.Member.{_∈_, Distinct}
 use Rattle.lists.specs.Order.{StrictOrder, Total, Apart, Ascending}
 use Rattle.lists.proofs.Cases.{by-test, clash}
-use Rattle.lists.proofs.Member.{append-∈, map-∈}
+use Rattle.lists.proofs.Member.{append-∈, map-∈, getD-∈}
 use Rattle.lists.proofs.Keep.{keep-∈}
 
 -- an order of what f gives of elements orders the elements
@@ -49,7 +52,24 @@ module _ {A : Type 0} (less : A → A → Bool) where
   distinct-apart total (x ∷ xs) d =
       (λ y m. by-test (less x y) (λ e. inl e) (λ e. by-test (less y x) (λ f. inr f) (λ f. absurd (d .0 (rw (total x y e f) m)))), distinct-apart total xs (d .1))
 
+  -- an earlier place has the lesser element
+  pub ascending-at : (d : A) (xs : List A) → Ascending less xs → (i j : ℕ) → i < j → j < length xs → less (getD xs i d) (getD xs j d) ≡ true
+  ascending-at d [] a i j h k = absurd (omega arith)
+  ascending-at d (x ∷ xs) a zero zero h k = absurd (omega arith)
+  ascending-at d (x ∷ xs) a zero (suc j) h k = a .0 (getD xs j d) (getD-∈ d xs j (omega arith))
+  ascending-at d (x ∷ xs) a (suc i) zero h k = absurd (omega arith)
+  ascending-at d (x ∷ xs) a (suc i) (suc j) h k = ascending-at d xs (a .1) i j (omega arith) (omega arith)
+
   module _ (o : StrictOrder less) where
+    -- a list ascends if each element is less than the next
+    pub steps-ascending : (d : A) (xs : List A) → ((i : ℕ) → suc i < length xs → less (getD xs i d) (getD xs (suc i) d) ≡ true) → Ascending less xs
+    steps-ascending d [] f = tt
+    steps-ascending d (x ∷ []) f = (λ y m. absurd m, tt)
+    steps-ascending d (x ∷ y ∷ xs) f = first (steps-ascending d (y ∷ xs) (λ i h. f (suc i) (omega arith)))
+      where
+        first : Ascending less (y ∷ xs) → Ascending less (x ∷ y ∷ xs)
+        first a = (λ z m. ⊎-elim (λ e. rw e (f 0 (omega arith))) (λ k. o .transitive x y z (f 0 (omega arith)) (a .0 z k)) m, a)
+
     -- an ascending list's later elements differ from its first
     pub later-differs : (x z : A) (xs : List A) → Ascending less (x ∷ xs) → z ∈ xs → z ≡ x → ⊥
     later-differs x z xs a m e = clash (rw e at (a .0 z m)) (o .irreflexive x)

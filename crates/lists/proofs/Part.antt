@@ -11,7 +11,7 @@ use Rattle.lists.specs.Keep.{keep, consIf}
 use Rattle.lists.specs.Member.{_∈_}
 use Rattle.lists.specs.Order.{StrictOrder, Ascending}
 use Rattle.lists.specs.Limit.{goOn, stopped}
-use Rattle.lists.proofs.Cases.{by-test}
+use Rattle.lists.proofs.Cases.{by-test, clash}
 use Rattle.lists.proofs.Order.{asymmetric, later-differs}
 
 -- cs is xs with some elements left out, none of which passes
@@ -78,3 +78,18 @@ module _ {A : Type 0} (less : A → A → Bool) (o : StrictOrder less) (p : A �
     -- a search of it looks at no more
     pub part-stopped : (n : ℕ) → length (stopped p cs n) ≤ length (stopped p xs n)
     part-stopped n = thinned-stopped (part-thinned xs cs a b within holds) n
+
+-- an ascending part that is not shorter is the whole
+module _ {A : Type 0} (less : A → A → Bool) (o : StrictOrder less) where
+  shorter : {cs xs : List A} → Thinned (λ (z : A). false) cs xs → length cs ≤ length xs
+  shorter done = omega arith
+  shorter (leave e t) = omega (arith, shorter t)
+  shorter (take t) = omega (arith, shorter t)
+
+  none-left : {cs xs : List A} → Thinned (λ (z : A). false) cs xs → length xs ≤ length cs → cs ≡ xs
+  none-left done h = refl
+  none-left (leave e t) h = absurd (omega (arith, shorter t))
+  none-left (take {x = x} t) h = ap (λ (l : List A). x ∷ l) (none-left t (omega arith))
+
+  pub part-whole : (xs cs : List A) → Ascending less cs → Ascending less xs → ((z : A) → z ∈ cs → z ∈ xs) → length xs ≤ length cs → cs ≡ xs
+  part-whole xs cs a b within long = none-left (part-thinned less o (λ z. false) xs cs a b within (λ z m e. clash e refl)) long

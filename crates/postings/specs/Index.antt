@@ -1,18 +1,20 @@
 -- The index of a catalogue (REFERENCE.md, "Index").
 use mathlib.Core.Path.{_≡_}
-use mathlib.Core.Bool.{Bool, true, _&&_}
+use mathlib.Core.Bool.{Bool, true, false, _&&_}
 use mathlib.Core.List.{List, [], _∷_, _++_, map}
-use Prim.Native.Nat.{ℕ, suc, _≤_}
+use Prim.Native.Nat.{ℕ, zero, suc, _≤_, _<_}
 use lib.ListN.{length, getD}
 use lib.Dec.{leb, ltb, eqb}
 use Rattle.lists.specs.Keep.{keep, every}
 use Rattle.lists.specs.Sort.{sort}
 use Rattle.lists.specs.Same.{same}
-use Rattle.lists.specs.Cut.{cut, endsWithin}
+use Rattle.lists.specs.Cut.{cut, window, endsWithin}
 use Rattle.catalogue.specs.Refusal.{unless, _orElse_}
 use Rattle.catalogue.specs.Catalogue.{Catalogue, Target, Valid, catalogueRefusal, mapped, maxTargets, maxBases}
 use Rattle.columns.specs.Posting.{Posting, earlier}
-use Rattle.seeds.specs.Seeds.{seeds, keysOf, ranksOf, positionsOf}
+use Rattle.columns.specs.Parts.{row}
+use Rattle.seeds.specs.Key.{keyOf}
+use Rattle.seeds.specs.Seeds.{starts, seeds, keysOf, ranksOf, positionsOf}
 
 -- every seed of sequences by rank, the first of which has rank r
 abbrev pub allSeeds : ℕ → ℕ → List (List ℕ) → List Posting
@@ -80,3 +82,43 @@ pub record Indexed (q : ℕ) (ss : List (List ℕ)) (ks rs os : List ℕ) : Type
   pub keys : ks ≡ keysOf (indexOf q ss)
   pub ranks : rs ≡ ranksOf (indexOf q ss)
   pub positions : os ≡ positionsOf (indexOf q ss)
+
+-- ---- what inner calls answer
+
+-- a posting is a seed of the sequences
+abbrev pub isSeed : ℕ → List (List ℕ) → Posting → Bool
+isSeed q ss p =
+    ltb (p .rank) (length ss) && ltb (p .position) (starts q (getD ss (p .rank) [])) && eqb (p .key) (keyOf (window (getD ss (p .rank) []) (p .position) q))
+
+-- each row is a seed and earlier than the next
+pub record RowsRight (q : ℕ) (ss : List (List ℕ)) (ks rs os : List ℕ) : Type 0 where
+  pub seeds : (i : ℕ) → i < length ks → isSeed q ss (row ks rs os i) ≡ true
+  pub climb : (i : ℕ) → suc i < length ks → earlier (row ks rs os i) (row ks rs os (suc i)) ≡ true
+
+-- row i is later than the row before it, if there is one
+abbrev pub Climbs : List ℕ → List ℕ → List ℕ → ℕ → Type 0
+Climbs ks rs os zero = Unit {0}
+Climbs ks rs os (suc i) = earlier (row ks rs os i) (row ks rs os (suc i)) ≡ true
+
+-- an answer tells whether a statement holds
+pub record Tells (r : Bool) (holds : Type 0) : Type 0 where
+  pub yes-so : r ≡ true → holds
+  pub not-so : r ≡ false → holds → ⊥
+
+-- keys do not fall
+abbrev pub Rising : List ℕ → Type 0
+Rising ks = (i j : ℕ) → i < j → j < length ks → getD ks i 0 ≤ getD ks j 0
+
+-- where a bound stands in keys that do not fall
+pub record BoundAt (ks : List ℕ) (bound place : ℕ) : Type 0 where
+  pub inside : place ≤ length ks
+  pub below : (i : ℕ) → i < place → getD ks i 0 < bound
+  pub above : (i : ℕ) → place ≤ i → i < length ks → bound ≤ getD ks i 0
+
+-- the places from start up to end, and no others, have the key
+pub record RangeOf (ks : List ℕ) (key start end : ℕ) : Type 0 where
+  pub ordered : start ≤ end
+  pub inside : end ≤ length ks
+  pub before : (i : ℕ) → i < start → getD ks i 0 < key
+  pub among : (i : ℕ) → start ≤ i → i < end → getD ks i 0 ≡ key
+  pub after : (i : ℕ) → end ≤ i → i < length ks → key < getD ks i 0

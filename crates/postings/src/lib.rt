@@ -2,4 +2,6 @@
 pub mod build;
 pub mod index;
 pub mod lookup;
+pub mod plan;
 pub mod ranked;
+pub mod read;

@@ -1,0 +1,2 @@
+pub mod Sequencing
+pub mod Sorting
