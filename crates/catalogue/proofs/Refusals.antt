@@ -35,7 +35,7 @@ places-below ns n h =
 -- equal names are refused, and others ranked
 module _ (ns : List (List ℕ)) (ms : List ℕ) where
   pub names-refused : distinctNames ns ≡ false → (buffer : List ℕ) → NamesRanked ns ms (Refused 4) buffer
-  names-refused d buffer = record { refusal = ap (λ b. unless b 4) (sym d); ranks = tt }
+  names-refused d buffer = record { refusal = ap (λ b. unless b 4) (sym d); ranks = λ z. omega arith }
 
   pub names-ranked : distinctNames ns ≡ true → (k : ℕ) (order buffer : List ℕ) → order ≡ sort (placeBefore ns) (numbers 0 (length ns)) → Kept ms order k buffer → NamesRanked ns ms (Ranked k) buffer
   names-ranked d k order buffer e h = record { refusal = ap (λ b. unless b 4) (sym d); ranks = rw e at h }
@@ -43,12 +43,12 @@ module _ (ns : List (List ℕ)) (ms : List ℕ) where
 module _ (c : Catalogue) where
   pub out-of-bounds : inBounds c ≡ false → (buffer : List ℕ) → RankedAs c (Refused 2) buffer
   unfolding catalogueRefusal
-  out-of-bounds e buffer = record { refusal = rw e; ranks = tt }
+  out-of-bounds e buffer = record { refusal = rw e; ranks = λ z. omega arith }
 
   module _ (within : inBounds c ≡ true) where
     pub bad-bases : every properSequence (sequences c) ≡ false → (buffer : List ℕ) → RankedAs c (Refused 3) buffer
     unfolding catalogueRefusal
-    bad-bases e buffer = record { refusal = rw (within, e); ranks = tt }
+    bad-bases e buffer = record { refusal = rw (within, e); ranks = λ z. omega arith }
 
     module _ (proper : every properSequence (sequences c) ≡ true) where
       by-names : (b : Bool) → distinctNames (names c) ≡ b → unless b 4 ≡ catalogueRefusal c
@@ -58,7 +58,7 @@ module _ (c : Catalogue) where
       -- the ranking of the names is that of the catalogue
       pub ranked-as : (r : Ranking) (buffer rest : List ℕ) → length buffer ≡ length (c .identifierEnds) → NamesRanked (names c) (c .marks) r buffer → RankedAs c r (buffer ++ rest)
       unfolding mapped
-      ranked-as (Refused n) buffer rest l h = record { refusal = h .refusal ∙ by-names (distinctNames (names c)) refl; ranks = tt }
+      ranked-as (Refused n) buffer rest l h = record { refusal = h .refusal ∙ by-names (distinctNames (names c)) refl; ranks = h .ranks }
       ranked-as (Ranked k) buffer rest l h = by-test (distinctNames (names c)) yes-distinct no-distinct
         where
           no-distinct : distinctNames (names c) ≡ false → RankedAs c (Ranked k) (buffer ++ rest)
@@ -74,3 +74,13 @@ module _ (c : Catalogue) where
               let o : length (mapped c) ≡ k = sym (length-map (mapped c) (λ t. t .place)) ∙ ap length (sym p) ∙ sym (h .ranks .count) in
               let within-buffer : k ≤ length buffer = omega (arith, length-take k buffer, ap length (h .ranks .places), h .ranks .count) in
               record { refusal = h .refusal ∙ by-names (distinctNames (names c)) refl; ranks = record { count = sym o; places = take-append-le k buffer rest within-buffer ∙ e } }
+
+-- a catalogue that meets no refusal is valid
+pub valid : (c : Catalogue) → catalogueRefusal c ≡ 0 → Valid c
+unfolding catalogueRefusal
+valid c e =
+    by-test (inBounds c)
+    (λ b. by-test (every properSequence (sequences c))
+    (λ l. by-test (distinctNames (names c)) (λ d. record { bounds = b; letters = l; distinct = d }) (λ d. absurd (omega (arith, rw (b, l, d) at e))))
+    (λ l. absurd (omega (arith, rw (b, l) at e))))
+    (λ b. absurd (omega (arith, rw b at e)))

@@ -30,7 +30,7 @@ rankingRefusal (Ranked k) = 0
 
 -- of names that differ, the linear places in the order of the names; 4 where two names are equal
 abbrev pub LinearIn : List (List ℕ) → List ℕ → Ranking → List ℕ → Type 0
-LinearIn names marks (Refused n) buffer = Unit {0}
+LinearIn names marks (Refused n) buffer = n ≡ 0 → ⊥
 LinearIn names marks (Ranked k) buffer = Kept marks (sort (placeBefore names) (numbers 0 (length names))) k buffer
 
 pub record NamesRanked (names : List (List ℕ)) (marks : List ℕ) (r : Ranking) (buffer : List ℕ) : Type 0 where
@@ -42,9 +42,9 @@ pub record RanksOf (c : Catalogue) (k : ℕ) (buffer : List ℕ) : Type 0 where
   pub count : k ≡ length (mapped c)
   pub places : take k buffer ≡ map (λ t. t .place) (mapped c)
 
--- a valid catalogue is ranked; of the buffer nothing is said where it is refused
+-- a catalogue is ranked or refused by a number that is not 0; of the buffer nothing is said where it is refused
 abbrev pub RanksIn : Catalogue → Ranking → List ℕ → Type 0
-RanksIn c (Refused n) buffer = Unit {0}
+RanksIn c (Refused n) buffer = n ≡ 0 → ⊥
 RanksIn c (Ranked k) buffer = RanksOf c k buffer
 
 pub record RankedAs (c : Catalogue) (r : Ranking) (buffer : List ℕ) : Type 0 where

@@ -1,2 +1,6 @@
 pub mod Sequencing
 pub mod Sorting
+pub mod Indexing
+pub mod Testing
+pub mod Planning
+pub mod Searching

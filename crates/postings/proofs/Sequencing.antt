@@ -55,7 +55,7 @@ module _ (q : ℕ) (ss : List (List ℕ)) (rank : ℕ) (done : List Posting) (s 
       record {
         inside = omega arith;
         joined = append-assoc done (seeds q rank (getD ss rank [])) (allSeeds q (rank + 1) (drop (rank + 1) ss)) ∙ ap (λ l. done ++ l) next ∙ s .joined;
-        bounded = omega (arith, s .bounded, length-append done (seeds q rank (getD ss rank [])), length-seeds q rank (getD ss rank []) 0 (starts q (getD ss rank [])))
+        bounded = omega (arith, s .bounded, length-append done (seeds q rank (getD ss rank [])), length-seeds q rank (getD ss rank []) 0 (starts q (getD ss rank [])));
       }
     where
       next : seeds q rank (getD ss rank []) ++ allSeeds q (rank + 1) (drop (rank + 1) ss) ≡ allSeeds q rank (drop rank ss)
@@ -88,7 +88,7 @@ counting-more q ss rank count c some h most =
     record {
       done = c .done ++ seeds q rank (getD ss rank []);
       reached = reached-more q ss rank (c .done) (c .reached) some h most;
-      counted = omega (arith, c .counted, length-append (c .done) (seeds q rank (getD ss rank [])), length-seeds q rank (getD ss rank []) 0 (starts q (getD ss rank [])))
+      counted = omega (arith, c .counted, length-append (c .done) (seeds q rank (getD ss rank [])), length-seeds q rank (getD ss rank []) 0 (starts q (getD ss rank [])));
     }
 
 pub counting-all : (q : ℕ) (ss : List (List ℕ)) (rank count : ℕ) → Counting q ss rank count → length ss ≤ rank → count ≡ length (allSeeds q 0 ss)
@@ -122,7 +122,7 @@ module _ (q : ℕ) (ss : List (List ℕ)) (ks₀ rs₀ os₀ : List ℕ) (room :
         reached = reached-more q ss rank (f .done) (f .reached) some h most;
         counted = omega (arith, f .counted, length-append (f .done) more);
         stored = stored-join 0 (f .done) ks₀ rs₀ os₀ ks rs os (f .stored) more ks′ rs′ os′ (record { keys = omega (arith, room .keys); ranks = omega (arith, room .ranks); positions = omega (arith, room .positions) }) (rw z at st);
-        lengths = (lk ∙ f .lengths .0, lr ∙ f .lengths .1, lo ∙ f .lengths .2)
+        lengths = (lk ∙ f .lengths .0, lr ∙ f .lengths .1, lo ∙ f .lengths .2);
       }
 
   pub filling-all : length ss ≤ rank → (at ≡ length (allSeeds q 0 ss)) × Stored 0 (allSeeds q 0 ss) ks₀ rs₀ os₀ ks rs os

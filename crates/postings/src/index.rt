@@ -32,7 +32,15 @@ fn has_seed(sequence: &[u8], q: usize, start: usize, key: u64) -> bool
 }
 
 // Whether a posting is a seed of the ranked sequences.
-fn is_seed(key: u64, rank: usize, position: usize, bases: &[u8], ends: &[usize], ranked: &[usize], q: usize) -> bool
+fn is_seed(
+    key: u64,
+    rank: usize,
+    position: usize,
+    bases: &[u8],
+    ends: &[usize],
+    ranked: &[usize],
+    q: usize,
+) -> bool
     requires { ⌜ Lent (now bases) (now ends) (now ranked) × SeedLength q ⌝ }
     ensures { λ r. ⌜ r ≡ isSeed q (rankedSequences (now (bases .entry)) (now (ends .entry)) (now (ranked .entry))) (posting key rank position) ⌝ }
 {

@@ -5,11 +5,11 @@ ghost use lib.ListN.{length};
 ghost use Rattle.catalogue.specs.Catalogue.{lentCatalogue};
 ghost use Rattle.postings.specs.Index.{Lent, SeedLength, rankedSequences, indexOf, indexRefusal};
 ghost use Rattle.postings.specs.Answers.{planAnswer, planned, PlanRanked, BuiltAs, BuiltFrom};
-use catalogue::ranks::Ranking;
-use catalogue::ranks::rank_targets;
 use crate::build::build_index;
 use crate::index::is_index;
 use crate::ranked::count_postings;
+use catalogue::ranks::Ranking;
+use catalogue::ranks::rank_targets;
 
 // How many targets are mapped, and how many postings their index has.
 pub struct Counts {
@@ -47,7 +47,14 @@ pub fn rank_checked(
     if 31 < q {
         return Ranking::Refused(1);
     }
-    rank_targets(ranked, identifiers, identifier_ends, bases, base_ends, marks)
+    rank_targets(
+        ranked,
+        identifiers,
+        identifier_ends,
+        bases,
+        base_ends,
+        marks,
+    )
 }
 
 // Plans the index of a catalogue: refusals 1 to 4, or how large it is.
@@ -62,7 +69,15 @@ pub fn plan(
     ensures { λ r. ⌜ planAnswer r ≡ planned q (lentCatalogue (now (identifiers .entry)) (now («identifier_ends» .entry)) (now (bases .entry)) (now («base_ends» .entry)) (now (marks .entry))) ⌝ }
 {
     let mut places = [0usize; 4096];
-    let ranking = rank_checked(&mut places, identifiers, identifier_ends, bases, base_ends, marks, q);
+    let ranking = rank_checked(
+        &mut places,
+        identifiers,
+        identifier_ends,
+        bases,
+        base_ends,
+        marks,
+        q,
+    );
     match ranking {
         Ranking::Refused(n) => IndexPlan::Refused(n),
         Ranking::Ranked(k) => IndexPlan::Planned(Counts {
@@ -115,10 +130,26 @@ pub fn build(
     ensures { λ r. ⌜ BuiltAs q (lentCatalogue (now (identifiers .entry)) (now («identifier_ends» .entry)) (now (bases .entry)) (now («base_ends» .entry)) (now (marks .entry))) r (now (keys .entry)) (now (ranks .entry)) (now (positions .entry)) (now (keys .exit)) (now (ranks .exit)) (now (positions .exit)) ⌝ }
 {
     let mut places = [0usize; 4096];
-    let ranking = rank_checked(&mut places, identifiers, identifier_ends, bases, base_ends, marks, q);
+    let ranking = rank_checked(
+        &mut places,
+        identifiers,
+        identifier_ends,
+        bases,
+        base_ends,
+        marks,
+        q,
+    );
     match ranking {
         Ranking::Refused(n) => Built::Refused(n),
-        Ranking::Ranked(k) => build_ranked(keys, ranks, positions, bases, base_ends, &places[..k], q),
+        Ranking::Ranked(k) => build_ranked(
+            keys,
+            ranks,
+            positions,
+            bases,
+            base_ends,
+            &places[..k],
+            q,
+        ),
     }
 }
 
@@ -137,7 +168,15 @@ pub fn check_index(
     ensures { λ r. ⌜ r ≡ indexRefusal q (lentCatalogue (now (identifiers .entry)) (now («identifier_ends» .entry)) (now (bases .entry)) (now («base_ends» .entry)) (now (marks .entry))) (now (keys .entry)) (now (ranks .entry)) (now (positions .entry)) ⌝ }
 {
     let mut places = [0usize; 4096];
-    let ranking = rank_checked(&mut places, identifiers, identifier_ends, bases, base_ends, marks, q);
+    let ranking = rank_checked(
+        &mut places,
+        identifiers,
+        identifier_ends,
+        bases,
+        base_ends,
+        marks,
+        q,
+    );
     match ranking {
         Ranking::Refused(n) => n,
         Ranking::Ranked(k) => {

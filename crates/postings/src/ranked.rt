@@ -8,7 +8,12 @@ ghost use Rattle.postings.specs.Index.{rankedSequences, allSeeds, Lent, 
 use catalogue::names::sequence_at;
 
 // The sequence of a rank.
-pub fn ranked_sequence<'a, 'b, 'c>(bases: &'a [u8], ends: &'b [usize], ranked: &'c [usize], rank: usize) -> &'a [u8]
+pub fn ranked_sequence<'a, 'b, 'c>(
+    bases: &'a [u8],
+    ends: &'b [usize],
+    ranked: &'c [usize],
+    rank: usize,
+) -> &'a [u8]
     requires { ⌜ Lent (now bases) (now ends) (now ranked) × (rank < length (now ranked)) ⌝ }
     ensures { λ r. ⌜ now r ≡ getD (rankedSequences (now (bases .entry)) (now (ends .entry)) (now (ranked .entry))) rank [] ⌝ }
 {

@@ -1,0 +1,175 @@
+-- From the ranking of a catalogue to its sequences by rank, and the answers of the public calls.
+-- Assumes nothing.
+use mathlib.Core.Path.{_≡_, refl, sym, ap, ap₂, _∙_}
+use mathlib.Core.Bool.{Bool, true, false, _&&_}
+use mathlib.Core.Logic.{_⊎_, inl, inr}
+use mathlib.Core.List.{List, [], _∷_, _++_, map}
+use Prim.Native.Nat.{ℕ, zero, suc, _+_, _<_, _≤_, min}
+use native.Mathlib.Omega.{arith}
+use lib.ListN.{length, getD, take, drop, length-map, length-take}
+use lib.Dec.{ltb, leb}
+use borrow.Author.Tests.{lt-ltb, leb-true, le-leb, lt-leb}
+use Rattle.lists.specs.Keep.{every}
+use Rattle.lists.specs.Member.{_∈_}
+use Rattle.lists.specs.Cut.{cut, endsWithin}
+use Rattle.lists.proofs.Cases.{by-test, and-true}
+use Rattle.lists.proofs.Every.{∈-every}
+use Rattle.lists.proofs.Member.{map-∈}
+use Rattle.catalogue.specs.Refusal.{unless, _orElse_}
+use Rattle.catalogue.specs.Catalogue.{Catalogue, Target, Valid, catalogueRefusal, sequences, mapped, maxBases, maxTargets}
+use Rattle.catalogue.specs.Ranking.{rankingRefusal, RanksOf, RanksIn, RankedAs}
+use Rattle.catalogue.specs.declared.ranks.Ranking.{Ranking}
+use Rattle.catalogue.specs.declared.ranks.Ranking.the-variants.{Refused, Ranked}
+use Rattle.catalogue.proofs.Checks.{bounded}
+use Rattle.catalogue.proofs.Mapped.{mapped-∈, at-its-place}
+use Rattle.catalogue.proofs.Refusals.{valid}
+use Rattle.columns.specs.Posting.{Posting}
+use Rattle.seeds.specs.Seeds.{keysOf, ranksOf, positionsOf, placed, Stored, Room}
+use Rattle.postings.specs.Index.{allSeeds, index, indexOf, mappedSequences, rankedSequences, seedRight, planRefusal, buildRefusal, indexRefusal, columnsOf, Lent, SeedLength}
+use Rattle.postings.specs.Answers.{planned, unlessRefused, PlanRanked, entries, leftIn, countUnless, Answers, BuiltAs, BuiltFrom}
+use Rattle.postings.specs.declared.plan.Built.{Built}
+use Rattle.postings.specs.declared.plan.Built.the-variants as builts
+use Rattle.postings.proofs.Indexing.{length-index}
+
+-- ---- the seed length
+
+module _ (q : ℕ) (c : Catalogue) where
+  pub seed-short : (buffer : List ℕ) → q < 1 → PlanRanked q c (Refused 1) buffer
+  unfolding planRefusal
+  seed-short buffer h = record { refusal = rw (lt-leb 1 q h); ranks = λ z. omega arith }
+
+  module _ (some : 1 ≤ q) where
+    pub seed-long : (buffer : List ℕ) → 31 < q → PlanRanked q c (Refused 1) buffer
+    unfolding planRefusal
+    seed-long buffer h = record { refusal = rw (le-leb 1 q some, lt-leb q 31 h); ranks = λ z. omega arith }
+
+    pub seed-fits : q ≤ 31 → (r : Ranking) (buffer : List ℕ) → RankedAs c r buffer → PlanRanked q c r buffer
+    unfolding planRefusal
+    seed-fits most r buffer a = record { refusal = rw (le-leb 1 q some, le-leb q 31 most) (a .refusal); ranks = a .ranks }
+
+  -- a plan that is not refused
+  pub plan-right : planRefusal q c ≡ 0 → SeedLength q × Valid c
+  unfolding planRefusal
+  plan-right e =
+      by-test (seedRight q)
+      (λ t. let u = and-true (leb 1 q) (leb q 31) t in (record { some = leb-true 1 q (u .0); most = leb-true q 31 (u .1) }, valid c (rw t at e)))
+      (λ t. absurd (omega (arith, rw t at e)))
+
+-- ---- sequences by rank
+
+module _ (q : ℕ) (c : Catalogue) (r : Ranking) (buffer : List ℕ) (p : PlanRanked q c r buffer) (k : ℕ) (ranked : r ≡ Ranked k) where
+  ranks : RanksOf c k buffer
+  ranks = rw ranked at (p .ranks)
+
+  pub no-refusal : planRefusal q c ≡ 0
+  no-refusal = sym (p .refusal) ∙ ap rankingRefusal ranked
+
+  pub seed-length : SeedLength q
+  seed-length = plan-right q c no-refusal .0
+
+  is-valid : Valid c
+  is-valid = plan-right q c no-refusal .1
+
+  ranked-count : length (take k buffer) ≡ k
+  ranked-count = ap length (ranks .places) ∙ length-map (mapped c) (λ (t : Target). t .place) ∙ sym (ranks .count)
+
+  pub within-buffer : k ≤ length buffer
+  within-buffer = omega (arith, length-take k buffer, ranked-count)
+
+  pub prefix-length : k ≡ length (take k buffer)
+  prefix-length = sym ranked-count
+
+  sequences-of : (ts : List Target) → ((t : Target) → t ∈ ts → t .bases ≡ getD (sequences c) (t .place) []) → map (λ n. getD (sequences c) n []) (map (λ (t : Target). t .place) ts) ≡ map (λ (t : Target). t .bases) ts
+  sequences-of [] h = refl
+  sequences-of (t ∷ ts) h = ap₂ {C = List (List ℕ)} (λ x xs. x ∷ xs) (sym (h t (inl refl))) (sequences-of ts (λ u m. h u (inr m)))
+
+  -- the sequences at the ranked places are those of the mapped targets
+  pub ranked-mapped : rankedSequences (c .bases) (c .baseEnds) (take k buffer) ≡ mappedSequences c
+  ranked-mapped =
+      ap (λ l. map (λ n. getD (sequences c) n []) l) (ranks .places)
+      ∙ sequences-of (mapped c) (λ t m. at-its-place c (is-valid .bounds) t (mapped-∈ c t m .0) .1)
+
+  pub lent : length buffer ≤ maxTargets → Lent (c .bases) (c .baseEnds) (take k buffer)
+  lent few =
+      let b = bounded c (is-valid .bounds) in
+      record {
+        right = b .based;
+        total = b .total;
+        few = omega (arith, ranked-count, within-buffer);
+        places = rw (ranks .places) (∈-every (λ n. ltb n (length (c .baseEnds))) (map (λ (t : Target). t .place) (mapped c)) below);
+      }
+    where
+      below : (n : ℕ) → n ∈ map (λ (t : Target). t .place) (mapped c) → ltb n (length (c .baseEnds)) ≡ true
+      below n m =
+          let w = map-∈ (λ (t : Target). t .place) n (mapped c) m in
+          let a = at-its-place c (is-valid .bounds) (w .0) (mapped-∈ c (w .0) (w .1) .0) in
+          lt-ltb n (length (c .baseEnds)) (omega (arith, w .2, a .0))
+
+  -- ---- what the calls answer
+
+  pub plan-done : (n : ℕ) → n ≡ length (allSeeds q 0 (rankedSequences (c .bases) (c .baseEnds) (take k buffer))) → (0, k, n) ≡ planned q c
+  plan-done n e =
+      let m : n ≡ length (index q c) = e ∙ ap (λ ss. length (allSeeds q 0 ss)) ranked-mapped ∙ sym (length-index q (mappedSequences c)) in
+      rw no-refusal (λ i. (0, ranks .count i, m i))
+
+  pub build-done : (b : Built) (ks rs os ks′ rs′ os′ : List ℕ) → BuiltFrom (indexOf q (rankedSequences (c .bases) (c .baseEnds) (take k buffer))) b ks rs os ks′ rs′ os′ → BuiltAs q c b ks rs os ks′ rs′ os′
+  unfolding buildRefusal
+  build-done b ks rs os ks′ rs′ os′ h = rw no-refusal (rw ranked-mapped at h)
+
+  pub test-done : (ks rs os : List ℕ) (b : Bool) → columnsOf (indexOf q (rankedSequences (c .bases) (c .baseEnds) (take k buffer))) ks rs os ≡ b → unless b 6 ≡ indexRefusal q c ks rs os
+  unfolding indexRefusal
+  test-done ks rs os b e = rw no-refusal (ap (λ t. unless t 6) (sym (rw ranked-mapped at e)))
+
+-- ---- refusals of the ranking
+
+module _ (q : ℕ) (c : Catalogue) (r : Ranking) (buffer : List ℕ) (p : PlanRanked q c r buffer) (n : ℕ) (refused : r ≡ Refused n) where
+  number : planRefusal q c ≡ n
+  number = sym (p .refusal) ∙ ap rankingRefusal refused
+
+  not-zero : n ≡ 0 → ⊥
+  not-zero = rw refused at (p .ranks)
+
+  pub plan-refused : (n, 0, 0) ≡ planned q c
+  plan-refused = rw number (go n not-zero)
+    where
+      go : (m : ℕ) → (m ≡ 0 → ⊥) → (m, 0, 0) ≡ unlessRefused m (length (mapped c)) (length (index q c))
+      go zero ne = absurd (ne refl)
+      go (suc m) ne = refl
+
+  pub build-refused : (ks rs os : List ℕ) → BuiltAs q c (builts.Refused n) ks rs os ks rs os
+  unfolding buildRefusal
+  build-refused ks rs os = rw number (go n not-zero)
+    where
+      go : (m : ℕ) → (m ≡ 0 → ⊥) → Answers (m orElse unless (leb (length (index q c)) (entries ks rs os)) 5) (index q c) (builts.Refused m) ks rs os ks rs os
+      go zero ne = absurd (ne refl)
+      go (suc m) ne = record { refused = refl; count = refl; keys = refl; ranks = refl; positions = refl }
+
+  pub test-refused : (ks rs os : List ℕ) → n ≡ indexRefusal q c ks rs os
+  unfolding indexRefusal
+  test-refused ks rs os = rw number (go n not-zero)
+    where
+      go : (m : ℕ) → (m ≡ 0 → ⊥) → m ≡ (m orElse unless (columnsOf (index q c) ks rs os) 6)
+      go zero ne = absurd (ne refl)
+      go (suc m) ne = refl
+
+-- ---- room
+
+module _ (q : ℕ) (ss : List (List ℕ)) (ks rs os : List ℕ) where
+  pub no-room : entries ks rs os < length (allSeeds q 0 ss) → BuiltFrom (indexOf q ss) (builts.Refused 5) ks rs os ks rs os
+  no-room h = rw (lt-leb (length (indexOf q ss)) (entries ks rs os) (omega (arith, length-index q ss))) (record { refused = refl; count = refl; keys = refl; ranks = refl; positions = refl })
+
+  pub with-room : (n : ℕ) → n ≡ length (allSeeds q 0 ss) → n ≤ entries ks rs os → (ks′ rs′ os′ : List ℕ) → Stored 0 (indexOf q ss) ks rs os ks′ rs′ os′ → BuiltFrom (indexOf q ss) (builts.Built n) ks rs os ks′ rs′ os′
+  with-room n e h ks′ rs′ os′ s =
+      rw (le-leb (length (indexOf q ss)) (entries ks rs os) (omega (arith, length-index q ss)))
+      (record {
+        refused = refl;
+        count = e ∙ sym (length-index q ss);
+        keys = s .keys ∙ front (keysOf (indexOf q ss)) ks;
+        ranks = s .ranks ∙ front (ranksOf (indexOf q ss)) rs;
+        positions = s .positions ∙ front (positionsOf (indexOf q ss)) os;
+      })
+    where
+      front : (xs buffer : List ℕ) → placed 0 xs buffer ≡ xs ++ drop (length xs) buffer
+      front xs buffer =
+          let z : 0 + length xs ≡ length xs = omega arith in
+          ap (λ m. xs ++ drop m buffer) z

@@ -1,0 +1,106 @@
+-- Binary search in keys that do not fall, and the postings of a key.
+-- Assumes nothing.
+use mathlib.Core.Path.{_≡_, refl, sym, ap, _∙_}
+use mathlib.Core.Bool.{true, false}
+use mathlib.Core.Logic.{_⊎_, inl, inr}
+use mathlib.Core.List.{List}
+use Prim.Native.Nat.{ℕ, zero, suc, _+_, _-_, _<_, _≤_, _/_}
+use native.Mathlib.Omega.{arith}
+use lib.ListN.{length, getD, take, drop, length-map}
+use lib.Dec.{eqb}
+use borrow.Author.Tests.{eq-eqb, ne-eqb}
+use Rattle.lists.proofs.Cases.{compare}
+use Rattle.lists.proofs.Keep.{keep-range}
+use Rattle.lists.proofs.Order.{ascending-at}
+use Rattle.lists.proofs.Places.{getD-map}
+use Rattle.lists.proofs.Triple.{test-before}
+use Rattle.columns.specs.Posting.{Posting, triple, earlier}
+use Rattle.columns.proofs.Rows.{none}
+use Rattle.seeds.specs.Seeds.{keysOf}
+use Rattle.postings.specs.Index.{hits, indexOf, Rising, BoundAt, RangeOf}
+use Rattle.postings.proofs.Indexing.{index-ascending}
+
+-- the bound's place is between low and high
+pub record Between (ks : List ℕ) (bound low high : ℕ) : Type 0 where
+  pub ordered : low ≤ high
+  pub inside : high ≤ length ks
+  pub below : (i : ℕ) → i < low → getD ks i 0 < bound
+  pub above : (i : ℕ) → high ≤ i → i < length ks → bound ≤ getD ks i 0
+
+module _ (ks : List ℕ) (bound : ℕ) where
+  pub between-all : Between ks bound 0 (length ks)
+  between-all = record { ordered = omega arith; inside = omega arith; below = λ i h. absurd (omega arith); above = λ i h k. absurd (omega arith) }
+
+  module _ (low high : ℕ) (b : Between ks bound low high) where
+    pub between-met : high ≤ low → BoundAt ks bound low
+    between-met h = record { inside = omega (arith, b .inside, b .ordered); below = b .below; above = λ i l k. b .above i (omega (arith, b .ordered)) k }
+
+    module _ (rising : Rising ks) (mid : ℕ) (from : low ≤ mid) (to : mid < high) (key : ℕ) (at : key ≡ getD ks mid 0) where
+      pub go-higher : key < bound → Between ks bound (mid + 1) high
+      go-higher h = record { ordered = omega arith; inside = b .inside; below = λ i l. lower i (compare i mid) l; above = b .above }
+        where
+          lower : (i : ℕ) → (i < mid) ⊎ ((i ≡ mid) ⊎ (mid < i)) → i < mid + 1 → getD ks i 0 < bound
+          lower i (inl m) l = omega (arith, rising i mid m (omega (arith, b .inside)))
+          lower i (inr (inl m)) l = omega (arith, ap (λ n. getD ks n 0) m)
+          lower i (inr (inr m)) l = absurd (omega arith)
+
+      pub go-lower : bound ≤ key → Between ks bound low mid
+      go-lower h = record { ordered = from; inside = omega (arith, b .inside); below = b .below; above = λ i l k. higher i (compare i mid) l k }
+        where
+          higher : (i : ℕ) → (i < mid) ⊎ ((i ≡ mid) ⊎ (mid < i)) → mid ≤ i → i < length ks → bound ≤ getD ks i 0
+          higher i (inl m) l k = absurd (omega arith)
+          higher i (inr (inl m)) l k = omega (arith, ap (λ n. getD ks n 0) m)
+          higher i (inr (inr m)) l k = omega (arith, rising mid i m k)
+
+-- the range of a key: from its own bound to the next number's
+module _ (ks : List ℕ) (key start : ℕ) (s : BoundAt ks key start) where
+  pub range-last : ((i : ℕ) → i < length ks → getD ks i 0 ≤ key) → RangeOf ks key start (length ks)
+  range-last most =
+      record {
+        ordered = s .inside;
+        inside = omega arith;
+        before = s .below;
+        among = λ i h k. let a = s .above i h k in let m = most i k in omega arith;
+        after = λ i h k. absurd (omega arith);
+      }
+
+  pub range-next : Rising ks → (end : ℕ) → BoundAt ks (key + 1) end → RangeOf ks key start end
+  range-next rising end e =
+      record {
+        ordered = ordered (compare start end);
+        inside = e .inside;
+        before = s .below;
+        among = λ i h k. let a = s .above i h (omega (arith, e .inside)) in let m = e .below i k in omega arith;
+        after = λ i h k. let m = e .above i h k in omega arith;
+      }
+    where
+      ordered : (start < end) ⊎ ((start ≡ end) ⊎ (end < start)) → start ≤ end
+      ordered (inl h) = omega arith
+      ordered (inr (inl h)) = omega arith
+      ordered (inr (inr h)) = absurd (let a = s .below end h in let m = e .above end (omega arith) (omega (arith, s .inside)) in omega arith)
+
+-- the keys of an index do not fall
+pub index-rising : (q : ℕ) (ss : List (List ℕ)) → Rising (keysOf (indexOf q ss))
+index-rising q ss i j h k =
+    let n = length-map (indexOf q ss) (λ (p : Posting). p .key) in
+    let e = getD-map (λ (p : Posting). p .key) none 0 (indexOf q ss) i (omega arith) in
+    let f = getD-map (λ (p : Posting). p .key) none 0 (indexOf q ss) j (omega arith) in
+    rw (e, f) (go (test-before (triple (getD (indexOf q ss) i none)) (triple (getD (indexOf q ss) j none)) (ascending-at earlier none (indexOf q ss) (index-ascending q ss) i j h (omega arith))))
+  where
+    go : {m n : ℕ} {B : Type 0} → (m < n) ⊎ ((m ≡ n) × B) → m ≤ n
+    go (inl l) = omega arith
+    go (inr l) = omega arith
+
+-- the part of an index between start and end of a key is its hits
+pub range-hits : (key start end : ℕ) (ps : List Posting) → RangeOf (keysOf ps) key start end → hits key ps ≡ take (end - start) (drop start ps)
+range-hits key start end ps r =
+    keep-range (λ (p : Posting). eqb (p .key) key) none start (end - start) ps (omega (arith, n, r .ordered, r .inside))
+    (λ i h. ne-eqb _ key (λ e. let b = r .before i h in omega (arith, at i (omega (arith, n, r .inside, r .ordered)))))
+    (λ i h k. eq-eqb _ key (sym (at i (omega (arith, n, r .inside, r .ordered))) ∙ r .among i h (omega (arith, r .ordered))))
+    (λ i h k. ne-eqb _ key (λ e. let a = r .after i (omega (arith, r .ordered)) (omega (arith, n)) in omega (arith, at i k)))
+  where
+    n : length (keysOf ps) ≡ length ps
+    n = length-map ps (λ (p : Posting). p .key)
+
+    at : (i : ℕ) → i < length ps → getD (keysOf ps) i 0 ≡ getD ps i none .key
+    at i h = getD-map (λ (p : Posting). p .key) none 0 ps i h
