@@ -81,7 +81,8 @@ on-minus (suc s) bs i ne h = ap codeOf (ap (λ n. complementOf (getD bs n 0)) (o
 
 -- ---- eligibility
 
-letters-turned : (bs : List ℕ) → every isBase (map upperOf (reverseComplement bs)) ≡ every isBase (map upperOf bs)
+-- the letters of a turned read are letters
+pub letters-turned : (bs : List ℕ) → every isBase (map upperOf (reverseComplement bs)) ≡ every isBase (map upperOf bs)
 unfolding reverseComplement
 letters-turned bs = ap (every isBase) (map-reverse upperOf (map complementOf bs)) ∙ every-reverse isBase (map upperOf (map complementOf bs)) ∙ go bs
   where

@@ -1,0 +1,58 @@
+-- Places of a read in sequences by rank, and where it matches (REFERENCE.md, "Places").
+use mathlib.Core.Bool.{Bool}
+use mathlib.Core.List.{List, [], _∷_, _++_, map}
+use Prim.Native.Nat.{ℕ, zero, suc, _-_}
+use lib.ListN.{length, getD}
+use Rattle.lists.specs.Keep.{keep}
+use Rattle.lists.specs.Same.{same}
+use Rattle.lists.specs.Triple.{Triple, lexicographic}
+use Rattle.lists.specs.Cut.{window}
+use Rattle.bases.specs.Base.{upperOf}
+use Rattle.bases.specs.Read.{oriented}
+use Rattle.seeds.specs.Seeds.{starts}
+
+-- the rank of a sequence, a start in it, and the strand: 0 for '+', 1 for '-'
+pub record Place : Type 0 where
+  pub rank : ℕ
+  pub start : ℕ
+  pub strand : ℕ
+
+abbrev pub place : ℕ → ℕ → ℕ → Place
+place r s d = record { rank = r; start = s; strand = d }
+
+abbrev pub triple : Place → Triple
+triple p = (p .rank, p .start, p .strand)
+
+-- by rank, then start, then strand
+abbrev pub before : Place → Place → Bool
+before p q = lexicographic (triple p) (triple q)
+
+-- both strands at k starts from s on
+abbrev pub placesIn : ℕ → ℕ → ℕ → List Place
+placesIn r s zero = []
+placesIn r s (suc k) = place r s 0 ∷ place r s 1 ∷ placesIn r (suc s) k
+
+-- the fitting places of n bases in sequences by rank, the first of which has rank r
+abbrev pub placesFrom : ℕ → ℕ → List (List ℕ) → List Place
+placesFrom r n [] = []
+placesFrom r n (s ∷ ss) = placesIn r 0 (starts n s) ++ placesFrom (suc r) n ss
+
+-- every fitting place of n bases, ascending
+unfoldable pub places : ℕ → List (List ℕ) → List Place
+places n ss = placesFrom 0 n ss
+
+-- bases in upper case
+abbrev pub folded : List ℕ → List ℕ
+folded read = map upperOf read
+
+-- the read, in upper case and as it lies on the strand, stands base for base at the place
+unfoldable pub matches : List (List ℕ) → List ℕ → Place → Bool
+matches ss read p = same (window (getD ss (p .rank) []) (p .start) (length read)) (oriented (p .strand) (folded read))
+
+-- every place where the read matches, ascending
+unfoldable pub groups : List (List ℕ) → List ℕ → List Place
+groups ss read = keep (matches ss read) (places (length read) ss)
+
+-- the same place on the other strand
+abbrev pub swapped : Place → Place
+swapped p = place (p .rank) (p .start) (1 - p .strand)
