@@ -48,7 +48,7 @@ same-code x y hx hy e = capital-of x hx ∙ ap letterOf e ∙ sym (capital-of y 
 
 -- ---- a folded read on a strand
 
-oriented-folded : (s : ℕ) (read : List ℕ) → oriented s (folded read) ≡ folded (oriented s read)
+pub oriented-folded : (s : ℕ) (read : List ℕ) → oriented s (folded read) ≡ folded (oriented s read)
 oriented-folded zero read = refl
 oriented-folded (suc s) read = sym (folded-turned read)
 
