@@ -40,7 +40,7 @@ use Rattle.postings.proofs.Indexing.{index-ascending, index-∈-seed, seed-∈-
 use Rattle.places.specs.Place.{Place, place, triple, before, folded, places, matches, groups}
 use Rattle.places.proofs.Comparing.{oriented-folded}
 use Rattle.places.proofs.Placing.{Fits, before-order, before-total, place-eq, places-∈, ∈-places, places-ascending}
-use Rattle.indexed_mapper.specs.Search.{seedHits, seedCount, tried, fewest, chosen, lies, candidate, candidatesAt, candidates, comparable, compared}
+use Rattle.indexed_mapper.specs.Search.{seedHits, seedCount, tried, fewest, rarest, chosen, lies, candidate, candidatesAt, candidates, comparable, compared}
 
 -- ---- keys and windows
 
@@ -72,34 +72,37 @@ window-window (suc o) q (suc n) (x ∷ l) h = window-window o q n l (omega arith
 
 -- ---- the chosen offset
 
+stopped-∈ : (p : ℕ → Bool) (xs : List ℕ) (n o : ℕ) → o ∈ stopped p xs n → o ∈ xs
+stopped-∈ p (x ∷ xs) n o (inl e) = inl e
+stopped-∈ p (x ∷ xs) n o (inr m) = inr (go (p x) n m (λ k l. stopped-∈ p xs k o l))
+  where
+    go : (b : Bool) (k : ℕ) → o ∈ goOn b k (λ j. stopped p xs j) → ((j : ℕ) → o ∈ stopped p xs j → o ∈ xs) → o ∈ xs
+    go false k l f = f k l
+    go true zero l f = absurd l
+    go true (suc k) l f = f k l
+
+fewest-∈ : (count : ℕ → ℕ) (best : ℕ) (os : List ℕ) → (fewest count best os ≡ best) ⊎ (fewest count best os ∈ os)
+fewest-∈ count best [] = inl refl
+fewest-∈ count best (o ∷ os) = go (ltb (count o) (count best)) (fewest-∈ count o os) (fewest-∈ count best os)
+  where
+    go : (b : Bool) → (fewest count o os ≡ o) ⊎ (fewest count o os ∈ os) → (fewest count best os ≡ best) ⊎ (fewest count best os ∈ os) → (fewest count (cond b o best) os ≡ best) ⊎ (fewest count (cond b o best) os ∈ (o ∷ os))
+    go true (inl e) g = inr (inl e)
+    go true (inr m) g = inr (inr m)
+    go false f (inl e) = inl e
+    go false f (inr m) = inr (inr m)
+
+-- a rarest offset is one of the n
+pub rarest-below : (n : ℕ) (count : ℕ → ℕ) → 0 < n → rarest n count < n
+rarest-below n count h = go (fewest-∈ count 0 (tried n count))
+  where
+    go : (rarest n count ≡ 0) ⊎ (rarest n count ∈ tried n count) → rarest n count < n
+    go (inl e) = omega arith
+    go (inr m) = let r = numbers-∈ 0 n (rarest n count) (stopped-∈ (λ o. eqb (count o) 0) (numbers 0 n) 0 (rarest n count) m) in omega arith
+
 module _ (q : ℕ) (ss : List (List ℕ)) (read : List ℕ) where
-  stopped-∈ : (p : ℕ → Bool) (xs : List ℕ) (n o : ℕ) → o ∈ stopped p xs n → o ∈ xs
-  stopped-∈ p (x ∷ xs) n o (inl e) = inl e
-  stopped-∈ p (x ∷ xs) n o (inr m) = inr (go (p x) n m (λ k l. stopped-∈ p xs k o l))
-    where
-      go : (b : Bool) (k : ℕ) → o ∈ goOn b k (λ j. stopped p xs j) → ((j : ℕ) → o ∈ stopped p xs j → o ∈ xs) → o ∈ xs
-      go false k l f = f k l
-      go true zero l f = absurd l
-      go true (suc k) l f = f k l
-
-  fewest-∈ : (count : ℕ → ℕ) (best : ℕ) (os : List ℕ) → (fewest q ss read count best os ≡ best) ⊎ (fewest q ss read count best os ∈ os)
-  fewest-∈ count best [] = inl refl
-  fewest-∈ count best (o ∷ os) = go (ltb (count o) (count best)) (fewest-∈ count o os) (fewest-∈ count best os)
-    where
-      go : (b : Bool) → (fewest q ss read count o os ≡ o) ⊎ (fewest q ss read count o os ∈ os) → (fewest q ss read count best os ≡ best) ⊎ (fewest q ss read count best os ∈ os)
-          → (fewest q ss read count (cond b o best) os ≡ best) ⊎ (fewest q ss read count (cond b o best) os ∈ (o ∷ os))
-      go true (inl e) g = inr (inl e)
-      go true (inr m) g = inr (inr m)
-      go false f (inl e) = inl e
-      go false f (inr m) = inr (inr m)
-
   -- the chosen seed lies within the read
   pub chosen-inside : (strand : ℕ) → 1 ≤ q → q ≤ length read → chosen q ss read strand + q ≤ length read
-  chosen-inside strand some h = go (fewest-∈ (seedCount q ss read strand) 0 (tried q ss read strand))
-    where
-      go : (chosen q ss read strand ≡ 0) ⊎ (chosen q ss read strand ∈ tried q ss read strand) → chosen q ss read strand + q ≤ length read
-      go (inl e) = omega arith
-      go (inr m) = let r = numbers-∈ 0 (starts q read) (chosen q ss read strand) (stopped-∈ (λ o. eqb (seedCount q ss read strand o) 0) (numbers 0 (starts q read)) 0 (chosen q ss read strand) m) in omega arith
+  chosen-inside strand some h = let r = rarest-below (starts q read) (seedCount q ss read strand) (omega arith) in omega arith
 
   -- ---- candidates
 

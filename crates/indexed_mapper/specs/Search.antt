@@ -1,4 +1,5 @@
 -- What a search compares, and its work (REFERENCE.md, "Mapping").
+use mathlib.Core.Path.{_≡_}
 use mathlib.Core.Bool.{Bool, true, false, cond, _&&_}
 use mathlib.Core.List.{List, [], _∷_, map}
 use Prim.Native.Nat.{ℕ, suc, _+_, _-_}
@@ -13,31 +14,37 @@ use Rattle.bases.specs.Read.{oriented}
 use Rattle.columns.specs.Posting.{Posting}
 use Rattle.seeds.specs.Key.{keyOf}
 use Rattle.seeds.specs.Seeds.{starts}
-use Rattle.postings.specs.Index.{indexOf, hits}
+use Rattle.postings.specs.Index.{indexOf, hits, RangeOf}
 use Rattle.places.specs.Place.{Place, place, before, places, matches}
 
-module _ (q : ℕ) (ss : List (List ℕ)) (read : List ℕ) where
-  -- ---- the rarest seed
+-- ---- the rarest of n offsets, by how many postings each has
 
+-- the offsets that are looked up: up to and with the first that has none
+abbrev pub tried : ℕ → (ℕ → ℕ) → List ℕ
+tried n count = stopped (λ o. eqb (count o) 0) (numbers 0 n) 0
+
+-- the first offset with fewest, of one and those of a list
+abbrev pub fewest : (ℕ → ℕ) → ℕ → List ℕ → ℕ
+fewest count best [] = best
+fewest count best (o ∷ os) = fewest count (cond (ltb (count o) (count best)) o best) os
+
+abbrev pub rarest : ℕ → (ℕ → ℕ) → ℕ
+rarest n count = fewest count 0 (tried n count)
+
+module _ (q : ℕ) (ss : List (List ℕ)) (read : List ℕ) where
   -- the postings of the seed at an offset of the read as it lies on a strand
   abbrev pub seedHits : ℕ → ℕ → List Posting
   seedHits strand o = hits (keyOf (window (oriented strand read) o q)) (indexOf q ss)
 
-  -- how many there are
   abbrev pub seedCount : ℕ → ℕ → ℕ
   seedCount strand o = length (seedHits strand o)
 
-  -- the offsets that are looked up: up to and with the first that has no postings
-  abbrev pub tried : ℕ → List ℕ
-  tried strand = stopped (λ o. eqb (seedCount strand o) 0) (numbers 0 (starts q read)) 0
-
-  -- the first offset with fewest postings
-  abbrev pub fewest : (ℕ → ℕ) → ℕ → List ℕ → ℕ
-  fewest count best [] = best
-  fewest count best (o ∷ os) = fewest count (cond (ltb (count o) (count best)) o best) os
+  -- how many offsets are looked up on a strand, and which is chosen
+  abbrev pub lookupsOn : ℕ → ℕ
+  lookupsOn strand = length (tried (starts q read) (seedCount strand))
 
   abbrev pub chosen : ℕ → ℕ
-  chosen strand = fewest (seedCount strand) 0 (tried strand)
+  chosen strand = rarest (starts q read) (seedCount strand)
 
   -- ---- candidates
 
@@ -94,9 +101,25 @@ unlessShort q read n = cond (ltb (length read) q) 0 n
 abbrev pub work : ℕ → List (List ℕ) → List ℕ → ℕ → Work
 work q ss read limit =
     record {
-      lookups = unlessShort q read (length (tried q ss read 0) + length (tried q ss read 1));
+      lookups = unlessShort q read (lookupsOn q ss read 0 + lookupsOn q ss read 1);
       hits = unlessShort q read (seedCount q ss read 0 (chosen q ss read 0) + seedCount q ss read 1 (chosen q ss read 1));
       examined = unlessShort q read (examinedOn q ss read limit 0 + examinedOn q ss read limit 1);
       comparisons = length (compared q ss read limit);
       seen = length (keep (matches ss read) (compared q ss read limit))
     }
+
+-- ---- the choice of a seed, by the keys of an index
+
+-- how many postings a key has
+abbrev pub keyCount : List ℕ → ℕ → ℕ
+keyCount keys k = length (keep (λ x. eqb x k) keys)
+
+-- how many postings the seed at an offset has
+abbrev pub offsetCount : List ℕ → ℕ → List ℕ → ℕ → ℕ
+offsetCount keys q bases o = keyCount keys (keyOf (window bases o q))
+
+-- the rarest seed, the range of its postings, and the lookups made
+pub record Rarest (keys : List ℕ) (q : ℕ) (bases : List ℕ) (offset start end lookups : ℕ) : Type 0 where
+  pub offset-is : offset ≡ rarest (starts q bases) (offsetCount keys q bases)
+  pub range-is : RangeOf keys (keyOf (window bases offset q)) start end
+  pub lookups-are : lookups ≡ length (tried (starts q bases) (offsetCount keys q bases))

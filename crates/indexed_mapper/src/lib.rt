@@ -1,1 +1,2 @@
 // The exact mapper.
+pub mod rarest;
