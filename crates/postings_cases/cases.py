@@ -36,9 +36,7 @@ def refusal(q, names, name_ends, bases, base_ends, marks):
     if any(s == b"" or set(s) - set(b"ACGT") for s in parts(base_ends, bases)):
         return 3
     ids = parts(name_ends, names)
-    if any(a == b for a, b in itertools.combinations(ids, 2)) if len(ids) < 100 else len(set(ids)) < len(ids):
-        return 4
-    return 0
+    return 4 if len(set(ids)) < len(ids) else 0
 
 
 def linear(names, name_ends, bases, base_ends, marks):
@@ -84,7 +82,8 @@ def answer(q, room, *catalogue):
     columns = [[7] * n for n in room]
     n = refusal(q, *catalogue)
     rows = [] if n else index(q, *catalogue)
-    n = n or (5 if any(len(c) < len(rows) for c in columns) else 0)
+    if not n and any(len(c) < len(rows) for c in columns):
+        n = 5
     if not n:
         for k in range(3):
             for i, row in enumerate(rows):

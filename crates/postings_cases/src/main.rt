@@ -109,7 +109,6 @@ fn run_build(
 
 // Tests the columns' first entries.
 fn test(
-    before: &[u8],
     keys: &[u64],
     ranks: &[u64],
     positions: &[u64],
@@ -135,7 +134,43 @@ fn test(
         marks,
         q,
     );
-    put_line(before, n);
+    put_line(b" ", n);
+}
+
+// The tests: of the entries lent; of the postings built; of these with one key, one rank or one position raised, with
+// the first and the last exchanged, with the last left out of all columns, or of one.
+fn put_test(k: usize) {
+    match k {
+        0 => put(b"lent"),
+        1 => put(b"built"),
+        2 => put(b"key"),
+        3 => put(b"rank"),
+        4 => put(b"position"),
+        5 => put(b"exchanged"),
+        6 => put(b"fewer"),
+        7 => put(b"fewer keys"),
+        8 => put(b"fewer ranks"),
+        _ => put(b"fewer positions"),
+    }
+}
+
+// Of a refused call what is lent is tested, and where nothing is built nothing can be changed.
+fn tests(b: Built) -> usize {
+    match b {
+        Built::Refused(n) => 1,
+        Built::Built(n) => if n < 1 { 2 } else { 10 },
+    }
+}
+
+fn built_entries(b: Built) -> usize {
+    match b {
+        Built::Refused(n) => 0,
+        Built::Built(n) => n,
+    }
+}
+
+fn one_less(n: usize) -> usize {
+    if n < 1 { 0 } else { n - 1 }
 }
 
 // A column with the entry at a place raised by one.
@@ -161,272 +196,40 @@ fn exchanged(column: [u64; 64], i: usize) -> [u64; 64]
     c
 }
 
-// Tests n postings with a number changed in one of them.
-fn test_changed(
+// A column as test k has it, if its own test raises the entry at a place.
+fn varied(column: [u64; 64], k: usize, own: usize, i: usize, last: usize) -> [u64; 64]
+    ensures { λ r. ⌜ 64 ≡ length r ⌝ }
+{
+    if k == own {
+        return raised(column, i);
+    }
+    if k == 5 {
+        return exchanged(column, last);
+    }
+    column
+}
+
+// How many entries of a column test k has, if its own test leaves one out.
+fn entries(lent: usize, k: usize, own: usize, n: usize) -> usize {
+    if k == 0 {
+        return lent;
+    }
+    if k == 6 {
+        return one_less(n);
+    }
+    if k == own {
+        return one_less(n);
+    }
+    n
+}
+
+// Test k of n postings.
+fn run_test(
+    k: usize,
+    n: usize,
     keys: [u64; 64],
     ranks: [u64; 64],
     positions: [u64; 64],
-    n: usize,
-    identifiers: &[u8],
-    identifier_ends: &[usize],
-    bases: &[u8],
-    base_ends: &[usize],
-    marks: &[u8],
-    q: usize,
-) {
-    if n < 1 {
-        return;
-    }
-    let all = Room {
-        keys: n,
-        ranks: n,
-        positions: n,
-    };
-    let k = raised(keys, 0);
-    test(
-        b"key ",
-        &k,
-        &ranks,
-        &positions,
-        all,
-        identifiers,
-        identifier_ends,
-        bases,
-        base_ends,
-        marks,
-        q,
-    );
-    let r = raised(ranks, n / 2);
-    test(
-        b"rank ",
-        &keys,
-        &r,
-        &positions,
-        all,
-        identifiers,
-        identifier_ends,
-        bases,
-        base_ends,
-        marks,
-        q,
-    );
-    let p = raised(positions, n - 1);
-    test(
-        b"position ",
-        &keys,
-        &ranks,
-        &p,
-        all,
-        identifiers,
-        identifier_ends,
-        bases,
-        base_ends,
-        marks,
-        q,
-    );
-}
-
-// Tests n postings with the first and the last exchanged.
-fn test_exchanged(
-    keys: [u64; 64],
-    ranks: [u64; 64],
-    positions: [u64; 64],
-    n: usize,
-    identifiers: &[u8],
-    identifier_ends: &[usize],
-    bases: &[u8],
-    base_ends: &[usize],
-    marks: &[u8],
-    q: usize,
-) {
-    if n < 1 {
-        return;
-    }
-    let all = Room {
-        keys: n,
-        ranks: n,
-        positions: n,
-    };
-    let k = exchanged(keys, n - 1);
-    let r = exchanged(ranks, n - 1);
-    let p = exchanged(positions, n - 1);
-    test(
-        b"exchanged ",
-        &k,
-        &r,
-        &p,
-        all,
-        identifiers,
-        identifier_ends,
-        bases,
-        base_ends,
-        marks,
-        q,
-    );
-}
-
-// Tests n postings with the last left out, of all columns and of one.
-fn test_fewer(
-    keys: &[u64],
-    ranks: &[u64],
-    positions: &[u64],
-    n: usize,
-    identifiers: &[u8],
-    identifier_ends: &[usize],
-    bases: &[u8],
-    base_ends: &[usize],
-    marks: &[u8],
-    q: usize,
-) {
-    if n < 1 {
-        return;
-    }
-    let f = n - 1;
-    let all = Room {
-        keys: f,
-        ranks: f,
-        positions: f,
-    };
-    test(
-        b"fewer ",
-        keys,
-        ranks,
-        positions,
-        all,
-        identifiers,
-        identifier_ends,
-        bases,
-        base_ends,
-        marks,
-        q,
-    );
-    let k = Room {
-        keys: f,
-        ranks: n,
-        positions: n,
-    };
-    test(
-        b"fewer keys ",
-        keys,
-        ranks,
-        positions,
-        k,
-        identifiers,
-        identifier_ends,
-        bases,
-        base_ends,
-        marks,
-        q,
-    );
-    let r = Room {
-        keys: n,
-        ranks: f,
-        positions: n,
-    };
-    test(
-        b"fewer ranks ",
-        keys,
-        ranks,
-        positions,
-        r,
-        identifiers,
-        identifier_ends,
-        bases,
-        base_ends,
-        marks,
-        q,
-    );
-    let p = Room {
-        keys: n,
-        ranks: n,
-        positions: f,
-    };
-    test(
-        b"fewer positions ",
-        keys,
-        ranks,
-        positions,
-        p,
-        identifiers,
-        identifier_ends,
-        bases,
-        base_ends,
-        marks,
-        q,
-    );
-}
-
-// Tests the n postings that were built, and what is near them.
-fn test_built(
-    keys: [u64; 64],
-    ranks: [u64; 64],
-    positions: [u64; 64],
-    n: usize,
-    identifiers: &[u8],
-    identifier_ends: &[usize],
-    bases: &[u8],
-    base_ends: &[usize],
-    marks: &[u8],
-    q: usize,
-) {
-    let all = Room {
-        keys: n,
-        ranks: n,
-        positions: n,
-    };
-    test(
-        b"built ",
-        &keys,
-        &ranks,
-        &positions,
-        all,
-        identifiers,
-        identifier_ends,
-        bases,
-        base_ends,
-        marks,
-        q,
-    );
-    test_changed(
-        keys,
-        ranks,
-        positions,
-        n,
-        identifiers,
-        identifier_ends,
-        bases,
-        base_ends,
-        marks,
-        q,
-    );
-    test_exchanged(
-        keys,
-        ranks,
-        positions,
-        n,
-        identifiers,
-        identifier_ends,
-        bases,
-        base_ends,
-        marks,
-        q,
-    );
-    test_fewer(
-        &keys,
-        &ranks,
-        &positions,
-        n,
-        identifiers,
-        identifier_ends,
-        bases,
-        base_ends,
-        marks,
-        q,
-    );
-}
-
-// Plans, builds into columns of sevens, and tests what is lent after that.
-fn run_calls(
     room: Room,
     identifiers: &[u8],
     identifier_ends: &[usize],
@@ -435,7 +238,75 @@ fn run_calls(
     marks: &[u8],
     q: usize,
 ) {
-    put_plan(plan(identifiers, identifier_ends, bases, base_ends, marks, q));
+    let last = one_less(n);
+    let ks = varied(keys, k, 2, 0, last);
+    let rs = varied(ranks, k, 3, n / 2, last);
+    let ps = varied(positions, k, 4, last, last);
+    let lent = Room {
+        keys: entries(room.keys, k, 7, n),
+        ranks: entries(room.ranks, k, 8, n),
+        positions: entries(room.positions, k, 9, n),
+    };
+    put_test(k);
+    test(
+        &ks,
+        &rs,
+        &ps,
+        lent,
+        identifiers,
+        identifier_ends,
+        bases,
+        base_ends,
+        marks,
+        q,
+    );
+}
+
+fn run_tests(
+    built: Built,
+    keys: [u64; 64],
+    ranks: [u64; 64],
+    positions: [u64; 64],
+    room: Room,
+    identifiers: &[u8],
+    identifier_ends: &[usize],
+    bases: &[u8],
+    base_ends: &[usize],
+    marks: &[u8],
+    q: usize,
+) {
+    let n = built_entries(built);
+    let end = tests(built);
+    let mut k = 0;
+    while k < end {
+        run_test(
+            k,
+            n,
+            keys,
+            ranks,
+            positions,
+            room,
+            identifiers,
+            identifier_ends,
+            bases,
+            base_ends,
+            marks,
+            q,
+        );
+        k += 1;
+    }
+}
+
+// Builds into columns of sevens, and tests what is left in them.
+fn run_index(
+    room: Room,
+    identifiers: &[u8],
+    identifier_ends: &[usize],
+    bases: &[u8],
+    base_ends: &[usize],
+    marks: &[u8],
+    q: usize,
+) {
     let mut keys = [7u64; 64];
     let mut ranks = [7u64; 64];
     let mut positions = [7u64; 64];
@@ -453,11 +324,11 @@ fn run_calls(
     );
     put_built(built);
     put_columns(&keys, &ranks, &positions, room);
-    test(
-        b"lent ",
-        &keys,
-        &ranks,
-        &positions,
+    run_tests(
+        built,
+        keys,
+        ranks,
+        positions,
         room,
         identifiers,
         identifier_ends,
@@ -466,20 +337,27 @@ fn run_calls(
         marks,
         q,
     );
-    if let Built::Built(n) = built {
-        test_built(
-            keys,
-            ranks,
-            positions,
-            n,
-            identifiers,
-            identifier_ends,
-            bases,
-            base_ends,
-            marks,
-            q,
-        );
-    }
+}
+
+fn run_calls(
+    room: Room,
+    identifiers: &[u8],
+    identifier_ends: &[usize],
+    bases: &[u8],
+    base_ends: &[usize],
+    marks: &[u8],
+    q: usize,
+) {
+    put_plan(plan(identifiers, identifier_ends, bases, base_ends, marks, q));
+    run_index(
+        room,
+        identifiers,
+        identifier_ends,
+        bases,
+        base_ends,
+        marks,
+        q,
+    );
 }
 
 fn wide(b: u8) -> usize

@@ -28,6 +28,9 @@ slice-aggregate-check-index-3 c = sym (length-take-le _ _ (omega arith))
 check-index-requires : tie.Need-check-index-requires
 check-index-requires c κs = search needs
 
+slice-aggregate-put-line : tie.Need-slice-aggregate-put-line
+slice-aggregate-put-line c = search needs
+
 put-line-requires : tie.Need-put-line-requires
 put-line-requires c κs = search needs
 
@@ -45,5 +48,6 @@ test-spec =
     slice-aggregate-check-index-2
     slice-aggregate-check-index-3
     check-index-requires
+    slice-aggregate-put-line
     put-line-requires
     returns)
