@@ -126,7 +126,7 @@ module _ (q : ℕ) (ss : List (List ℕ)) (read : List ℕ) where
           seed = index-∈-seed q ss p (b .0);
           keyed = eqb-true (p .key) (keyOf (window (oriented strand read) o q)) (b .1);
           after = leb-true o (p .position) (c .0);
-          within = leb-true (p .position - o + length read) (length (getD ss (p .rank) [])) (c .1)
+          within = leb-true (p .position - o + length read) (length (getD ss (p .rank) [])) (c .1);
         }
 
     ∈-hit : (p : Posting) → Hit p → p ∈ keep (lies q ss read o) (seedHits q ss read strand o)
@@ -188,7 +188,7 @@ module _ (q : ℕ) (ss : List (List ℕ)) (read : List ℕ) where
               seed = rw (lt-ltb (z .rank) (length ss) (f .ranked), lt-ltb (z .start + o) (starts q s) (omega (arith, f .inside))) (eq-eqb (x .key) (x .key) refl);
               keyed = keys;
               after = omega arith;
-              within = rw back (f .inside)
+              within = rw back (f .inside);
             }
 
   -- ---- the compared list

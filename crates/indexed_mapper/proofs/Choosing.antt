@@ -26,9 +26,9 @@ use Rattle.indexed_mapper.specs.Choosing.{Better}
 pub range-count : (keys : List ℕ) (k start end : ℕ) → RangeOf keys k start end → keyCount keys k ≡ end - start
 range-count keys k start end r =
     let e = keep-range (λ x. eqb x k) 0 start (end - start) keys (omega (arith, r .ordered, r .inside))
-      (λ i h. ne-eqb (getD keys i 0) k (λ e. let b = r .before i h in omega arith))
-      (λ i h l. eq-eqb (getD keys i 0) k (r .among i h (omega (arith, r .ordered))))
-      (λ i h l. ne-eqb (getD keys i 0) k (λ e. let b = r .after i (omega (arith, r .ordered)) l in omega arith)) in
+    (λ i h. ne-eqb (getD keys i 0) k (λ e. let b = r .before i h in omega arith))
+    (λ i h l. eq-eqb (getD keys i 0) k (r .among i h (omega (arith, r .ordered))))
+    (λ i h l. ne-eqb (getD keys i 0) k (λ e. let b = r .after i (omega (arith, r .ordered)) l in omega arith)) in
     omega (arith, ap length e, length-take (end - start) (drop start keys), length-drop start keys, r .ordered, r .inside)
 
 numbers-step : (o n : ℕ) → o < n → numbers o (n - o) ≡ o ∷ numbers (suc o) (n - suc o)
@@ -81,7 +81,7 @@ module _ (f : ℕ → ℕ) (n : ℕ) where
         choice = sym (ap (fewest f 0) e ∙ ap (λ b. fewest f b (ahead 0)) (either (ltb (f 0) (f 0)) 0));
         total = omega (arith, ap length e);
         empty = λ x. x;
-        found = λ x. x
+        found = λ x. x;
       }
     where
       either : (b : Bool) (x : ℕ) → cond b x x ≡ x
@@ -110,7 +110,7 @@ module _ (f : ℕ → ℕ) (n : ℕ) where
           choice = ap (fewest f best) (sym a) ∙ l .choice;
           total = omega (arith, l .total, ap length a);
           empty = by-test (ltb (f (suc last)) (f best)) (λ t. rw t (λ e. e)) (λ t. rw t (λ e. absurd (ne e)));
-          found = by-test (ltb (f (suc last)) (f best)) (λ t. rw t (λ e. e)) (λ t. rw t (λ e. absurd (ne (omega (arith, ltb-false (f (suc last)) (f best) t)))))
+          found = by-test (ltb (f (suc last)) (f best)) (λ t. rw t (λ e. e)) (λ t. rw t (λ e. absurd (ne (omega (arith, ltb-false (f (suc last)) (f best) t)))));
         }
 
 -- the search for the rarest seed under way, behind offset o - 1

@@ -105,7 +105,7 @@ work q ss read limit =
       hits = unlessShort q read (seedCount q ss read 0 (chosen q ss read 0) + seedCount q ss read 1 (chosen q ss read 1));
       examined = unlessShort q read (examinedOn q ss read limit 0 + examinedOn q ss read limit 1);
       comparisons = length (compared q ss read limit);
-      seen = length (keep (matches ss read) (compared q ss read limit))
+      seen = length (keep (matches ss read) (compared q ss read limit));
     }
 
 -- ---- the choice of a seed, by the keys of an index
