@@ -22,6 +22,9 @@ use Rattle.postings.specs.Index.{allSeeds, rankedSequences, Lent}
 
 -- ---- ranked sequences
 
+pub ranked-many : (bases ends ranked : List ℕ) → length (rankedSequences bases ends ranked) ≡ length ranked
+ranked-many bases ends ranked = length-map ranked (λ p. getD (cut ends bases) p [])
+
 module _ (bases ends ranked : List ℕ) (l : Lent bases ends ranked) (i : ℕ) (h : i < length ranked) where
   pub place-below : getD ranked i 0 < length ends
   place-below = ltb-true (getD ranked i 0) (length ends) (every-at (λ p. ltb p (length ends)) 0 ranked (l .places) i h)
