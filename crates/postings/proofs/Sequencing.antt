@@ -1,23 +1,22 @@
 -- The seeds of sequences, rank after rank: counted and stored.
 -- Assumes nothing.
-use mathlib.Core.Path.{_≡_, refl, sym, ap, ap₂, _∙_}
-use mathlib.Core.Bool.{true}
-use mathlib.Core.List.{List, [], _∷_, _++_, map, append-assoc, append-nil}
-use Prim.Native.Nat.{ℕ, zero, suc, _+_, _-_, _*_, _<_, _≤_}
+use mathlib.Core.Path.{_≡_, refl, sym, ap, _∙_}
+use mathlib.Core.List.{List, [], _++_, append-assoc, append-nil}
+use Prim.Native.Nat.{ℕ, suc, _+_, _-_, _*_, _<_, _≤_}
 use native.Mathlib.Omega.{arith}
 use native.Mathlib.Numerals.{add-one}
 use lib.ListN.{length, getD, drop, length-append, length-map, drop-of-length-le}
 use lib.Seq.{drop-cons}
 use lib.Dec.{ltb}
 use borrow.Author.Tests.{ltb-true}
-use Rattle.lists.specs.Cut.{cut, endsWithin, window}
+use Rattle.lists.specs.Cut.{cut}
 use Rattle.lists.proofs.Every.{every-at}
 use Rattle.lists.proofs.Places.{getD-map}
 use Rattle.lists.proofs.Cut.{cut-at, ends-at, length-window, startOf}
-use Rattle.catalogue.specs.Catalogue.{maxBases, maxTargets}
+use Rattle.catalogue.specs.Catalogue.{maxBases}
 use Rattle.columns.specs.Posting.{Posting}
 use Rattle.seeds.specs.Seeds.{starts, seeds, Stored, Room}
-use Rattle.seeds.proofs.Storing.{length-seeds, stored-none, stored-join, stored-lengths}
+use Rattle.seeds.proofs.Storing.{length-seeds, stored-none, stored-join}
 use Rattle.postings.specs.Index.{allSeeds, rankedSequences, Lent}
 
 -- ---- ranked sequences
