@@ -35,7 +35,7 @@ returns : tie.Need-returns Inv-loop μ-loop
 returns c = let a = c .before .before .before .before .before .before .before .before .before .before .before .before .before .args in let ss = rankedSequences (a .bases .now) (a .ends .now) (a .ranked .now) in no-seed _ _ _ _ _ _ (c .before .before .before .before .before .before .loop .inv) (c .before .before .before .before .before .loop-test .taken) (row-seed (a .keys .now) (a .ranks .now) (a .positions .now) (a .q) ss _ _ _ _ _ (c .before .before .before .before .posting-key .ensures) (c .before .before .before .posting-rank .ensures) (c .before .before .posting-position .ensures) (c .before .is-seed .ensures) ∙ not-true _ (c .if1 .taken))
 
 row-climbs-requires : tie.Need-row-climbs-requires Inv-loop μ-loop
-row-climbs-requires c κs = (c .before .before .before .before .before .before .before .before .before .before .before .before .before .pre .0, c .before .before .before .before .before .loop-test .taken)
+row-climbs-requires c κs = (c .before .before .before .before .before .before .before .before .before .before .before .before .before .pre .0, omega (arith, c .before .before .before .before .before .loop-test .taken))
 
 returns-2 : tie.Need-returns-2 Inv-loop μ-loop
 returns-2 c = no-climb _ _ _ _ _ _ (c .before .before .before .before .before .before .before .before .loop .inv) (c .before .before .before .before .before .before .before .loop-test .taken) (c .before .row-climbs .ensures .not-so (not-true _ (c .if2 .taken)))
