@@ -17,7 +17,7 @@ use Rattle.catalogue.specs.Catalogue.{maxBases}
 use Rattle.columns.specs.Posting.{Posting}
 use Rattle.seeds.specs.Seeds.{starts, seeds, Stored, Room}
 use Rattle.seeds.proofs.Storing.{length-seeds, stored-none, stored-join}
-use Rattle.postings.specs.Index.{allSeeds, rankedSequences, Lent}
+use Rattle.postings.specs.Index.{allSeeds, rankedSequences, Lent, SeedLength}
 
 -- ---- ranked sequences
 
@@ -129,3 +129,21 @@ module _ (q : ℕ) (ss : List (List ℕ)) (ks₀ rs₀ os₀ : List ℕ) (room :
 
   pub filling-all : length ss ≤ rank → (at ≡ length (allSeeds q 0 ss)) × Stored 0 (allSeeds q 0 ss) ks₀ rs₀ os₀ ks rs os
   filling-all h = let e = reached-all q ss rank (f .done) (f .reached) h in (f .counted ∙ ap length e, rw e at (f .stored))
+
+-- ---- one rank more, for what is lent
+
+module _ (bases ends ranked : List ℕ) (q : ℕ) (p : Lent bases ends ranked × SeedLength q) (rank : ℕ) (h : rank < length ranked) where
+  ranked-inside : rank < length (rankedSequences bases ends ranked)
+  ranked-inside = omega (arith, ranked-many bases ends ranked)
+
+  pub counting-next : (count : ℕ) → Counting q (rankedSequences bases ends ranked) rank count → Counting q (rankedSequences bases ends ranked) (rank + 1) (count + starts q (getD (rankedSequences bases ends ranked) rank []))
+  counting-next count c = counting-more q (rankedSequences bases ends ranked) rank count c (p .1 .some) ranked-inside (ranked-length bases ends ranked (p .0) rank h)
+
+  module _ (ks₀ rs₀ os₀ : List ℕ) (room : Room 0 (length (allSeeds q 0 (rankedSequences bases ends ranked))) ks₀ rs₀ os₀) (at : ℕ) (ks rs os : List ℕ)
+      (f : Filling q (rankedSequences bases ends ranked) ks₀ rs₀ os₀ rank at ks rs os) (s : List ℕ) (e : s ≡ getD (rankedSequences bases ends ranked) rank []) where
+    pub room-next : Room at (starts q s) ks rs os
+    room-next = rw e (filling-room q (rankedSequences bases ends ranked) ks₀ rs₀ os₀ room rank at ks rs os f ranked-inside)
+
+    pub filling-next : (at′ : ℕ) (ks′ rs′ os′ : List ℕ) → at′ ≡ at + starts q s → length ks′ ≡ length ks → length rs′ ≡ length rs → length os′ ≡ length os → Stored at (seeds q rank s) ks rs os ks′ rs′ os′ → Filling q (rankedSequences bases ends ranked) ks₀ rs₀ os₀ (rank + 1) at′ ks′ rs′ os′
+    filling-next at′ ks′ rs′ os′ a lk lr lo st =
+        filling-more q (rankedSequences bases ends ranked) ks₀ rs₀ os₀ room rank at ks rs os f (p .1 .some) ranked-inside (ranked-length bases ends ranked (p .0) rank h) at′ ks′ rs′ os′ (rw e at a) lk lr lo (rw e at st)

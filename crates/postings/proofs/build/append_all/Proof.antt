@@ -4,7 +4,7 @@ use native.Mathlib.Omega.{arith}
 use lib.ListN.{length}
 use Rattle.postings.specs.Index.{rankedSequences}
 use Prim.Native.Nat.{_-_}
-use Rattle.postings.proofs.Sequencing.{Filling, filling-none, filling-room, filling-more, filling-all, ranked-many, ranked-length}
+use Rattle.postings.proofs.Sequencing.{Filling, filling-none, room-next, filling-next, filling-all, ranked-many}
 use Rattle.postings.proofs.build.append_all.Statement.{statement}
 use Rattle.postings.proofs.build.append_all.Tie as tie
 
@@ -21,7 +21,10 @@ ranked-sequence-requires : tie.Need-ranked-sequence-requires Inv-loop μ-loop
 ranked-sequence-requires c κs = (c .before .before .before .before .before .before .before .before .pre .0 .0, c .loop-test .taken)
 
 append-postings-requires : tie.Need-append-postings-requires Inv-loop μ-loop
-append-postings-requires c κs = let a = c .before .before .before .before .before .before .before .before .before .before .before .before .args in let z = ranked-many (a .bases .now) (a .ends .now) (a .ranked .now) in let s = c .before .before .before .before .before .before .before .before .before .before .before .before .pre .0 .1 in ((s .some, s .most), rw (c .before .before .before .ranked-sequence .ensures) (filling-room _ _ _ _ _ (c .before .before .before .before .before .before .before .before .before .before .before .before .pre .1) _ _ _ _ _ (c .before .before .before .before .before .loop .inv) (omega (arith, z, c .before .before .before .before .loop-test .taken))))
+append-postings-requires c κs =
+    let s = c .before .before .before .before .before .before .before .before .before .before .before .before in
+    let t = c .before .before .before .before in
+    ((s .pre .0 .1 .some, s .pre .0 .1 .most), room-next _ _ _ _ (s .pre .0) _ (t .loop-test .taken) _ _ _ (s .pre .1) _ _ _ _ (t .before .loop .inv) _ (c .before .before .before .ranked-sequence .ensures))
 
 add-rank : tie.Need-add-rank Inv-loop μ-loop
 add-rank c = omega arith
@@ -30,7 +33,11 @@ loop-less : tie.Need-loop-less Inv-loop μ-loop
 loop-less c = omega arith
 
 loop-again : tie.Need-loop-again Inv-loop μ-loop
-loop-again c = let a = c .before .before .before .before .before .before .before .before .before .before .before .before .before .before .before .before .before .before .before .args in let l = c .before .before .before .before .before .before .before .before .before .before .before .before .before .before .before .before .before .before .before .pre .0 .0 in let z = ranked-many (a .bases .now) (a .ends .now) (a .ranked .now) in let e = c .before .before .before .before .before .before .before .before .before .before .ranked-sequence .ensures in let p = c .before .before .before .before .before .before .append-postings in filling-more _ _ _ _ _ (c .before .before .before .before .before .before .before .before .before .before .before .before .before .before .before .before .before .before .before .pre .1) _ _ _ _ _ (c .before .before .before .before .before .before .before .before .before .before .before .before .loop .inv) (c .before .before .before .before .before .before .before .before .before .before .before .before .before .before .before .before .before .before .before .pre .0 .1 .some) (omega (arith, z, c .before .before .before .before .before .before .before .before .before .before .before .loop-test .taken)) (ranked-length (a .bases .now) (a .ends .now) (a .ranked .now) l _ (c .before .before .before .before .before .before .before .before .before .before .before .loop-test .taken)) _ _ _ _ (rw e at (p .ensures .0)) (p .kept .0) (p .kept .1 .0) (p .kept .1 .1 .0) (rw e at (p .ensures .1))
+loop-again c =
+    let s = c .before .before .before .before .before .before .before .before .before .before .before .before .before .before .before .before .before .before .before in
+    let t = c .before .before .before .before .before .before .before .before .before .before .before in
+    let p = c .before .before .before .before .before .before .append-postings in
+    filling-next _ _ _ _ (s .pre .0) _ (t .loop-test .taken) _ _ _ (s .pre .1) _ _ _ _ (t .before .loop .inv) _ (c .before .before .before .before .before .before .before .before .before .before .ranked-sequence .ensures) _ _ _ _ (p .ensures .0) (p .kept .0) (p .kept .1 .0) (p .kept .1 .1 .0) (p .ensures .1)
 
 same-length : tie.Need-same-length Inv-loop μ-loop
 same-length c = c .before .loop .inv .lengths .0
@@ -42,7 +49,10 @@ same-length-3 : tie.Need-same-length-3 Inv-loop μ-loop
 same-length-3 c = c .before .loop .inv .lengths .2
 
 returns : tie.Need-returns Inv-loop μ-loop
-returns c = let a = c .before .before .before .before .before .before .before .before .args in let z = ranked-many (a .bases .now) (a .ends .now) (a .ranked .now) in filling-all _ _ _ _ _ (c .before .before .before .before .before .before .before .before .pre .1) _ _ _ _ _ (c .before .loop .inv) (omega (arith, z, c .loop-test .left))
+returns c =
+    let s = c .before .before .before .before .before .before .before .before in
+    let many = ranked-many (s .args .bases .now) (s .args .ends .now) (s .args .ranked .now) in
+    filling-all _ _ _ _ _ (s .pre .1) _ _ _ _ _ (c .before .loop .inv) (omega (arith, many, c .loop-test .left))
 
 pub append-all-spec : {M : Type 1} → statement M
 append-all-spec =

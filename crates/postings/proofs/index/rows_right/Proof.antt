@@ -32,13 +32,20 @@ is-seed-requires : tie.Need-is-seed-requires Inv-loop μ-loop
 is-seed-requires c κs = c .before .before .before .before .before .before .before .before .before .before .before .pre .1
 
 returns : tie.Need-returns Inv-loop μ-loop
-returns c = let a = c .before .before .before .before .before .before .before .before .before .before .before .before .before .args in let ss = rankedSequences (a .bases .now) (a .ends .now) (a .ranked .now) in no-seed _ _ _ _ _ _ (c .before .before .before .before .before .before .loop .inv) (c .before .before .before .before .before .loop-test .taken) (row-seed (a .keys .now) (a .ranks .now) (a .positions .now) (a .q) ss _ _ _ _ _ (c .before .before .before .before .posting-key .ensures) (c .before .before .before .posting-rank .ensures) (c .before .before .posting-position .ensures) (c .before .is-seed .ensures) ∙ not-true _ (c .if1 .taken))
+returns c =
+    let t = c .before .before .before .before .before in
+    let a = t .before .before .before .before .before .before .before .before .args in
+    let seed =
+    row-seed (a .keys .now) (a .ranks .now) (a .positions .now) (a .q) (rankedSequences (a .bases .now) (a .ends .now) (a .ranked .now)) _ _ _ _ _ (c .before .before .before .before .posting-key .ensures) (c .before .before .before .posting-rank .ensures) (c .before .before .posting-position .ensures) (c .before .is-seed .ensures) in
+    no-seed _ _ _ _ _ _ (t .before .loop .inv) (t .loop-test .taken) (seed ∙ not-true _ (c .if1 .taken))
 
 row-climbs-requires : tie.Need-row-climbs-requires Inv-loop μ-loop
 row-climbs-requires c κs = (c .before .before .before .before .before .before .before .before .before .before .before .before .before .pre .0, omega (arith, c .before .before .before .before .before .loop-test .taken))
 
 returns-2 : tie.Need-returns-2 Inv-loop μ-loop
-returns-2 c = no-climb _ _ _ _ _ _ (c .before .before .before .before .before .before .before .before .loop .inv) (c .before .before .before .before .before .before .before .loop-test .taken) (c .before .row-climbs .ensures .not-so (not-true _ (c .if2 .taken)))
+returns-2 c =
+    let t = c .before .before .before .before .before .before .before in
+    no-climb _ _ _ _ _ _ (t .before .loop .inv) (t .loop-test .taken) (c .before .row-climbs .ensures .not-so (not-true _ (c .if2 .taken)))
 
 add-i : tie.Need-add-i Inv-loop μ-loop
 add-i c = omega arith
@@ -47,7 +54,12 @@ loop-less : tie.Need-loop-less Inv-loop μ-loop
 loop-less c = omega arith
 
 loop-again : tie.Need-loop-again Inv-loop μ-loop
-loop-again c = let a = c .before .before .before .before .before .before .before .before .before .before .before .before .before .before .before .args in let ss = rankedSequences (a .bases .now) (a .ends .now) (a .ranked .now) in rows-more _ _ _ _ _ _ (c .before .before .before .before .before .before .before .before .loop .inv) (c .before .before .before .before .before .before .before .loop-test .taken) (row-seed (a .keys .now) (a .ranks .now) (a .positions .now) (a .q) ss _ _ _ _ _ (c .before .before .before .before .before .before .posting-key .ensures) (c .before .before .before .before .before .posting-rank .ensures) (c .before .before .before .before .posting-position .ensures) (c .before .before .before .is-seed .ensures) ∙ not-false _ (c .before .before .if1 .left)) (c .before .row-climbs .ensures .yes-so (not-false _ (c .if2 .left)))
+loop-again c =
+    let t = c .before .before .before .before .before .before .before in
+    let a = t .before .before .before .before .before .before .before .before .args in
+    let seed =
+    row-seed (a .keys .now) (a .ranks .now) (a .positions .now) (a .q) (rankedSequences (a .bases .now) (a .ends .now) (a .ranked .now)) _ _ _ _ _ (c .before .before .before .before .before .before .posting-key .ensures) (c .before .before .before .before .before .posting-rank .ensures) (c .before .before .before .before .posting-position .ensures) (c .before .before .before .is-seed .ensures) in
+    rows-more _ _ _ _ _ _ (t .before .loop .inv) (t .loop-test .taken) (seed ∙ not-false _ (c .before .before .if1 .left)) (c .before .row-climbs .ensures .yes-so (not-false _ (c .if2 .left)))
 
 returns-3 : tie.Need-returns-3 Inv-loop μ-loop
 returns-3 c = rows-all _ _ _ _ _ _ (c .before .loop .inv) (c .loop-test .left)

@@ -19,7 +19,10 @@ returns-3 : tie.Need-returns-3
 returns-3 c = no-room _ _ _ _ _ (omega (arith, c .if3 .taken, c .before .before .before .count-postings .ensures))
 
 build-index-requires : tie.Need-build-index-requires
-build-index-requires c κs = let n = c .before .before .before .before .before .before .count-postings .ensures in (c .before .before .before .before .before .before .before .before .before .before .before .before .before .pre, record { keys = omega (arith, n, c .before .before .before .before .before .if1 .left); ranks = omega (arith, n, c .before .before .before .before .if2 .left); positions = omega (arith, n, c .before .before .before .if3 .left) })
+build-index-requires c κs =
+    let s = c .before .before .before .before .before .before in
+    let n = s .count-postings .ensures in
+    (s .before .before .before .before .before .before .before .pre, record { keys = omega (arith, n, c .before .before .before .before .before .if1 .left); ranks = omega (arith, n, c .before .before .before .before .if2 .left); positions = omega (arith, n, c .before .before .before .if3 .left) })
 
 same-length : tie.Need-same-length
 same-length c = search needs
@@ -31,7 +34,9 @@ same-length-3 : tie.Need-same-length-3
 same-length-3 c = search needs
 
 returns-4 : tie.Need-returns-4
-returns-4 c = let s = c .before .before .before .before .before .before .build-index in with-room _ _ _ _ _ _ (c .before .before .before .before .before .before .before .before .before .before .before .before .before .count-postings .ensures) (omega (arith, c .before .before .before .before .before .before .before .before .before .before .before .before .if1 .left, c .before .before .before .before .before .before .before .before .before .before .before .if2 .left, c .before .before .before .before .before .before .before .before .before .before .if3 .left)) _ _ _ (s .ensures)
+returns-4 c =
+    let s = c .before .before .before .before .before .before .before .before .before .before in
+    with-room _ _ _ _ _ _ (s .before .before .before .count-postings .ensures) (omega (arith, s .before .before .if1 .left, s .before .if2 .left, s .if3 .left)) _ _ _ (c .before .before .before .before .before .before .build-index .ensures)
 
 pub build-ranked-spec : {M : Type 1} → statement M
 build-ranked-spec =

@@ -6,7 +6,7 @@ use Rattle.postings.specs.Index.{rankedSequences}
 use mathlib.Core.Path.{ap}
 use Prim.Native.Nat.{_-_}
 use Rattle.seeds.specs.Seeds.{starts}
-use Rattle.postings.proofs.Sequencing.{Counting, counting-none, counting-more, counting-all, ranked-many, ranked-length}
+use Rattle.postings.proofs.Sequencing.{Counting, counting-none, counting-next, counting-all, ranked-many}
 use Rattle.postings.proofs.ranked.count_postings.Statement.{statement}
 use Rattle.postings.proofs.ranked.count_postings.Tie as tie
 
@@ -26,7 +26,11 @@ count-starts-requires : tie.Need-count-starts-requires Inv-loop μ-loop
 count-starts-requires c κs = c .before .before .before .before .before .before .pre .1
 
 add-count : tie.Need-add-count Inv-loop μ-loop
-add-count c = let a = c .before .before .before .before .before .before .before .args in let l = c .before .before .before .before .before .before .before .pre .0 in let z = ranked-many (a .bases .now) (a .ends .now) (a .ranked .now) in let m = counting-more _ _ _ _ (c .before .before .before .loop .inv) (c .before .before .before .before .before .before .before .pre .1 .some) (omega (arith, z, c .before .before .loop-test .taken)) (ranked-length (a .bases .now) (a .ends .now) (a .ranked .now) l _ (c .before .before .loop-test .taken)) in omega (arith, m .counted, m .reached .bounded, m .reached .inside, z, l .few, c .count-starts .ensures, ap (starts (a .q)) (c .before .ranked-sequence .ensures))
+add-count c =
+    let s = c .before .before .before .before .before .before .before in
+    let many = ranked-many (s .args .bases .now) (s .args .ends .now) (s .args .ranked .now) in
+    let m = counting-next _ _ _ _ (s .pre) _ (c .before .before .loop-test .taken) _ (c .before .before .before .loop .inv) in
+    omega (arith, m .counted, m .reached .bounded, m .reached .inside, many, s .pre .0 .few, c .count-starts .ensures, ap (starts (s .args .q)) (c .before .ranked-sequence .ensures))
 
 add-rank : tie.Need-add-rank Inv-loop μ-loop
 add-rank c = omega arith
@@ -35,10 +39,15 @@ loop-less : tie.Need-loop-less Inv-loop μ-loop
 loop-less c = omega arith
 
 loop-again : tie.Need-loop-again Inv-loop μ-loop
-loop-again c = let a = c .before .before .before .before .before .before .before .args in let l = c .before .before .before .before .before .before .before .pre .0 in let z = ranked-many (a .bases .now) (a .ends .now) (a .ranked .now) in rw (c .count-starts .ensures, c .before .ranked-sequence .ensures) (counting-more _ _ _ _ (c .before .before .before .loop .inv) (c .before .before .before .before .before .before .before .pre .1 .some) (omega (arith, z, c .before .before .loop-test .taken)) (ranked-length (a .bases .now) (a .ends .now) (a .ranked .now) l _ (c .before .before .loop-test .taken)))
+loop-again c =
+    let s = c .before .before .before .before .before .before .before in
+    rw (c .count-starts .ensures, c .before .ranked-sequence .ensures) (counting-next _ _ _ _ (s .pre) _ (c .before .before .loop-test .taken) _ (c .before .before .before .loop .inv))
 
 returns : tie.Need-returns Inv-loop μ-loop
-returns c = let a = c .before .before .before .before .before .args in let z = ranked-many (a .bases .now) (a .ends .now) (a .ranked .now) in counting-all _ _ _ _ (c .before .loop .inv) (omega (arith, z, c .loop-test .left))
+returns c =
+    let a = c .before .before .before .before .before .args in
+    let many = ranked-many (a .bases .now) (a .ends .now) (a .ranked .now) in
+    counting-all _ _ _ _ (c .before .loop .inv) (omega (arith, many, c .loop-test .left))
 
 pub count-postings-spec : {M : Type 1} → statement M
 count-postings-spec =
