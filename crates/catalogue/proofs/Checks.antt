@@ -1,20 +1,20 @@
 -- The tests of refusals 2 and 3, put together.
 -- Assumes nothing.
 use mathlib.Core.Path.{_≡_, refl, sym, ap, _∙_}
-use mathlib.Core.Bool.{Bool, true, false, not, _&&_, _||_, Bool·beq}
-use mathlib.Core.List.{List, [], _∷_}
+use mathlib.Core.Bool.{true, false, not, _&&_, Bool·beq}
+use mathlib.Core.List.{List}
 use Prim.Native.Nat.{ℕ, _<_, _≤_, min}
 use native.Mathlib.Omega.{arith}
 use lib.ListN.{length}
-use lib.Dec.{ltb, leb, eqb}
-use borrow.Author.Tests.{eqb-true, leb-true, lt-ltb, le-ltb, lt-leb, le-leb, eq-eqb, ne-eqb}
+use lib.Dec.{leb, eqb}
+use borrow.Author.Tests.{eqb-true, leb-true, lt-ltb, lt-leb, le-leb, eq-eqb, ne-eqb}
 use Rattle.lists.specs.Keep.{every}
 use Rattle.lists.specs.Cut.{endsWithin}
 use Rattle.lists.proofs.Cases.{and-true, beq-true}
-use Rattle.lists.proofs.Below.{passesBelow, passes-at}
+use Rattle.lists.proofs.Below.{passes-at}
 use Rattle.lists.proofs.Cut.{ends-weaken}
 use Rattle.bases.specs.Base.{isBase, codeOf, mark}
-use Rattle.catalogue.specs.Catalogue.{Catalogue, names, sequences, maxTargets, maxIdentifier, maxBases, countsRight, endsRight, valuesRight, inBounds, properSequence}
+use Rattle.catalogue.specs.Catalogue.{Catalogue, names, maxTargets, maxIdentifier, maxBases, countsRight, endsRight, valuesRight, inBounds, properSequence}
 
 -- ---- capitals
 

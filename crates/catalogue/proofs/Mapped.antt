@@ -1,8 +1,8 @@
 -- The mapped targets of a catalogue: their ranks, and that the order of supply changes nothing but places.
 -- Assumes nothing.
-use mathlib.Core.Path.{_≡_, refl, sym, ap, ap₂, _∙_}
-use mathlib.Core.Bool.{Bool, true, false, not}
-use mathlib.Core.Logic.{_⊎_, inl, inr, ⊎-elim}
+use mathlib.Core.Path.{_≡_, sym, ap, ap₂, _∙_}
+use mathlib.Core.Bool.{true, not}
+use mathlib.Core.Logic.{_⊎_, inl, inr}
 use mathlib.Core.List.{List, [], _∷_, map}
 use Prim.Native.Nat.{ℕ, zero, suc, _+_, _<_, _≤_}
 use native.Mathlib.Omega.{arith}
@@ -11,7 +11,7 @@ use lib.ListN.{length, getD}
 use lib.Dec.{eqb}
 use Rattle.lists.specs.Keep.{keep, every}
 use Rattle.lists.specs.Member.{_∈_}
-use Rattle.lists.specs.Order.{StrictOrder, Apart, Ascending}
+use Rattle.lists.specs.Order.{Apart, Ascending}
 use Rattle.lists.specs.Sort.{sort}
 use Rattle.lists.proofs.Cases.{by-test, clash, compare, and-true}
 use Rattle.lists.proofs.Member.{∈-map, map-∈}
@@ -25,7 +25,7 @@ use Rattle.catalogue.specs.Ranking.{linearAt}
 use Rattle.lists.proofs.Cut.{length-cut}
 use Rattle.catalogue.proofs.Checks.{bounded}
 use Rattle.catalogue.proofs.NameLaws.{name-order, name-total, place-order, two-same}
-use Rattle.catalogue.proofs.Merging.{numbers-∈}
+use Rattle.catalogue.proofs.Merging.{numbers-∈, ∈-numbers}
 
 -- ---- targets by place
 
@@ -74,15 +74,6 @@ module _ (ns : List (List ℕ)) (distinct : distinctNames ns ≡ true) where
   numbers-apart k zero h = tt
   numbers-apart k (suc n) h =
       (λ j m. let r = numbers-∈ (suc k) n j m in names-apart k j (omega arith) (omega arith) (λ e. omega arith), numbers-apart (suc k) n (omega arith))
-
-∈-numbers : (k n x : ℕ) → k ≤ x → x < k + n → x ∈ numbers k n
-∈-numbers k zero x h l = absurd (omega arith)
-∈-numbers k (suc n) x h l = ⊎-elim (λ m. absurd (omega arith)) (λ m. ⊎-elim (λ e. inl (sym e)) (λ m. inr (∈-numbers (suc k) n x m (omega arith))) m) (compare′ (compare k x))
-  where
-    compare′ : (k < x) ⊎ ((k ≡ x) ⊎ (x < k)) → (x < k) ⊎ ((k ≡ x) ⊎ (suc k ≤ x))
-    compare′ (inl m) = inr (inr m)
-    compare′ (inr (inl e)) = inr (inl e)
-    compare′ (inr (inr m)) = inl m
 
 targets-apart : (k : ℕ) (ns′ ss′ : List (List ℕ)) (ms′ : List ℕ) → distinctNames ns′ ≡ true → Apart byName (targetsFrom k ns′ ss′ ms′)
 targets-apart k [] ss′ ms′ d = tt

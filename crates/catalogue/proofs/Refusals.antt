@@ -2,27 +2,27 @@
 -- Assumes nothing.
 use mathlib.Core.Path.{_≡_, refl, sym, ap, _∙_}
 use mathlib.Core.Bool.{Bool, true, false}
-use mathlib.Core.List.{List, [], _∷_, _++_, map}
-use Prim.Native.Nat.{ℕ, zero, suc, _+_, _<_, _≤_}
+use mathlib.Core.List.{List, _++_, map}
+use Prim.Native.Nat.{ℕ, _≤_}
 use native.Mathlib.Omega.{arith}
-use lib.ListN.{length, take, drop, length-append, length-take, length-map}
-use lib.Seq.{take-append-le, length-take-le}
+use lib.ListN.{length, take, length-take, length-map}
+use lib.Seq.{take-append-le}
 use lib.Dec.{ltb}
 use borrow.Author.Tests.{lt-ltb}
-use Rattle.lists.specs.Keep.{keep, every}
+use Rattle.lists.specs.Keep.{every}
 use Rattle.lists.specs.Sort.{sort}
 use Rattle.lists.proofs.Cases.{by-test}
 use Rattle.lists.proofs.Every.{∈-every}
 use Rattle.lists.proofs.Sort.{sort-∈}
 use Rattle.lists.proofs.Cut.{length-cut}
-use Rattle.catalogue.specs.Refusal.{unless, _orElse_}
+use Rattle.catalogue.specs.Refusal.{unless}
 use Rattle.catalogue.specs.Name.{distinctNames}
-use Rattle.catalogue.specs.Ordered.{numbers, placeBefore, Ordered}
+use Rattle.catalogue.specs.Ordered.{numbers, placeBefore}
 use Rattle.catalogue.specs.Catalogue.{Catalogue, Valid, names, sequences, inBounds, properSequence, catalogueRefusal, mapped}
-use Rattle.catalogue.specs.Ranking.{Kept, linearAt, NamesRanked, RanksOf, RanksIn, RankedAs, rankingRefusal}
+use Rattle.catalogue.specs.Ranking.{Kept, NamesRanked, RankedAs}
 use Rattle.catalogue.specs.declared.ranks.Ranking.{Ranking}
 use Rattle.catalogue.specs.declared.ranks.Ranking.the-variants.{Refused, Ranked}
-use Rattle.catalogue.proofs.Checks.{Bounded, bounded}
+use Rattle.catalogue.proofs.Checks.{bounded}
 use Rattle.catalogue.proofs.Merging.{numbers-∈}
 use Rattle.catalogue.proofs.Mapped.{places-ranked}
 

@@ -1,7 +1,6 @@
 pub mod Range
 pub mod Rows
 pub mod Order
-pub mod Tails
 pub mod Climbing
 pub mod Settling
 pub mod Parting

@@ -14,3 +14,4 @@ pub mod Reverse
 pub mod Places
 pub mod Cut
 pub mod Runs
+pub mod Tails

@@ -1,9 +1,9 @@
 -- The index of sequences: its members, its order, and that the test of one pass tells it from any other columns.
 -- Assumes nothing.
 use mathlib.Core.Path.{_≡_, refl, sym, ap, ap₂, _∙_}
-use mathlib.Core.Bool.{Bool, true, false, cond, _&&_}
+use mathlib.Core.Bool.{Bool, true, false, _&&_}
 use mathlib.Core.Logic.{_⊎_, inl, inr, ⊎-elim}
-use mathlib.Core.List.{List, [], _∷_, _++_}
+use mathlib.Core.List.{List, [], _∷_}
 use Prim.Native.Nat.{ℕ, zero, suc, _+_, _<_, _≤_}
 use native.Mathlib.Omega.{arith}
 use lib.ListN.{length, getD, length-map}
@@ -11,18 +11,17 @@ use lib.Dec.{ltb, eqb}
 use borrow.Author.Tests.{ltb-true, lt-ltb, eqb-true, eq-eqb}
 use Rattle.lists.specs.Member.{_∈_}
 use Rattle.lists.specs.Order.{StrictOrder, Total, Apart, Ascending}
-use Rattle.lists.specs.Sort.{insert, merge, sort}
 use Rattle.lists.specs.Same.{same}
-use Rattle.lists.specs.Triple.{Triple, lexicographic}
+use Rattle.lists.specs.Triple.{lexicographic}
 use Rattle.lists.specs.Cut.{window}
 use Rattle.lists.proofs.Cases.{by-test, clash, and-true, same-test}
 use Rattle.lists.proofs.Member.{∈-append-left, ∈-append-right, append-∈, getD-∈, ∈-getD}
 use Rattle.lists.proofs.Order.{order-by, ascending-append, ascending-apart, ascending-at, steps-ascending}
-use Rattle.lists.proofs.Sort.{sort-ascending, ∈-sort, sort-∈}
+use Rattle.lists.proofs.Sort.{length-sort, sort-ascending, ∈-sort, sort-∈}
 use Rattle.lists.proofs.Part.{part-whole}
 use Rattle.lists.proofs.Same.{same-true, true-same}
 use Rattle.lists.proofs.Triple.{before-test, lexicographic-order, lexicographic-total}
-use Rattle.columns.specs.Posting.{Posting, posting, triple, earlier, rows, Columns}
+use Rattle.columns.specs.Posting.{Posting, triple, earlier, rows, Columns}
 use Rattle.columns.specs.Parts.{row}
 use Rattle.columns.proofs.Rows.{none, rows-length, rows-at}
 use Rattle.seeds.specs.Key.{keyOf}
@@ -152,19 +151,7 @@ module _ (q : ℕ) (ss : List (List ℕ)) where
 
   pub length-index : length (indexOf q ss) ≡ length (allSeeds q 0 ss)
   unfolding indexOf
-  length-index = length-sort (allSeeds q 0 ss)
-    where
-      length-insert : (p : Posting) (ps : List Posting) → length (insert earlier p ps) ≡ suc (length ps)
-      length-insert p [] = refl
-      length-insert p (o ∷ ps) = go (earlier p o) (length-insert p ps)
-        where
-          go : (b : Bool) → length (insert earlier p ps) ≡ suc (length ps) → length (cond b (p ∷ o ∷ ps) (o ∷ insert earlier p ps)) ≡ suc (suc (length ps))
-          go true e = refl
-          go false e = ap suc e
-
-      length-sort : (ps : List Posting) → length (sort earlier ps) ≡ length ps
-      length-sort [] = refl
-      length-sort (p ∷ ps) = length-insert p (sort earlier ps) ∙ ap suc (length-sort ps)
+  length-index = length-sort earlier (allSeeds q 0 ss)
 
   module _ (ks rs os : List ℕ) (c : Columns ks rs os) where
     at : (i : ℕ) → getD (rows ks rs os) i none ≡ row ks rs os i

@@ -1,32 +1,29 @@
 -- From the ranking of a catalogue to its sequences by rank, and the answers of the public calls.
 -- Assumes nothing.
 use mathlib.Core.Path.{_≡_, refl, sym, ap, ap₂, _∙_}
-use mathlib.Core.Bool.{Bool, true, false, _&&_}
-use mathlib.Core.Logic.{_⊎_, inl, inr}
+use mathlib.Core.Bool.{Bool, true}
+use mathlib.Core.Logic.{inl, inr}
 use mathlib.Core.List.{List, [], _∷_, _++_, map}
-use Prim.Native.Nat.{ℕ, zero, suc, _+_, _<_, _≤_, min}
+use Prim.Native.Nat.{ℕ, zero, suc, _+_, _<_, _≤_}
 use native.Mathlib.Omega.{arith}
 use lib.ListN.{length, getD, take, drop, length-map, length-take}
 use lib.Dec.{ltb, leb}
 use borrow.Author.Tests.{lt-ltb, leb-true, le-leb, lt-leb}
-use Rattle.lists.specs.Keep.{every}
 use Rattle.lists.specs.Member.{_∈_}
-use Rattle.lists.specs.Cut.{cut, endsWithin}
 use Rattle.lists.proofs.Cases.{by-test, and-true}
 use Rattle.lists.proofs.Every.{∈-every}
 use Rattle.lists.proofs.Member.{map-∈}
 use Rattle.catalogue.specs.Refusal.{unless, _orElse_}
-use Rattle.catalogue.specs.Catalogue.{Catalogue, Target, Valid, catalogueRefusal, sequences, mapped, maxBases, maxTargets}
-use Rattle.catalogue.specs.Ranking.{rankingRefusal, RanksOf, RanksIn, RankedAs}
+use Rattle.catalogue.specs.Catalogue.{Catalogue, Target, Valid, sequences, mapped, maxTargets}
+use Rattle.catalogue.specs.Ranking.{rankingRefusal, RanksOf, RankedAs}
 use Rattle.catalogue.specs.declared.ranks.Ranking.{Ranking}
 use Rattle.catalogue.specs.declared.ranks.Ranking.the-variants.{Refused, Ranked}
 use Rattle.catalogue.proofs.Checks.{bounded}
 use Rattle.catalogue.proofs.Mapped.{mapped-∈, at-its-place}
 use Rattle.catalogue.proofs.Refusals.{valid}
-use Rattle.columns.specs.Posting.{Posting}
-use Rattle.seeds.specs.Seeds.{keysOf, ranksOf, positionsOf, placed, Stored, Room}
+use Rattle.seeds.specs.Seeds.{keysOf, ranksOf, positionsOf, placed, Stored}
 use Rattle.postings.specs.Index.{allSeeds, index, indexOf, mappedSequences, rankedSequences, seedRight, planRefusal, buildRefusal, indexRefusal, columnsOf, Lent, SeedLength}
-use Rattle.postings.specs.Answers.{planned, unlessRefused, PlanRanked, entries, leftIn, countUnless, Answers, BuiltAs, BuiltFrom}
+use Rattle.postings.specs.Answers.{planned, unlessRefused, PlanRanked, entries, Answers, BuiltAs, BuiltFrom}
 use Rattle.postings.specs.declared.plan.Built.{Built}
 use Rattle.postings.specs.declared.plan.Built.the-variants as builts
 use Rattle.postings.proofs.Indexing.{length-index}

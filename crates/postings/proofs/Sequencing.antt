@@ -1,26 +1,28 @@
 -- The seeds of sequences, rank after rank: counted and stored.
 -- Assumes nothing.
-use mathlib.Core.Path.{_≡_, refl, sym, ap, ap₂, _∙_}
-use mathlib.Core.Bool.{true}
-use mathlib.Core.List.{List, [], _∷_, _++_, map, append-assoc, append-nil}
-use Prim.Native.Nat.{ℕ, zero, suc, _+_, _-_, _*_, _<_, _≤_}
+use mathlib.Core.Path.{_≡_, refl, sym, ap, _∙_}
+use mathlib.Core.List.{List, [], _++_, append-assoc, append-nil}
+use Prim.Native.Nat.{ℕ, suc, _+_, _-_, _*_, _<_, _≤_}
 use native.Mathlib.Omega.{arith}
 use native.Mathlib.Numerals.{add-one}
 use lib.ListN.{length, getD, drop, length-append, length-map, drop-of-length-le}
 use lib.Seq.{drop-cons}
 use lib.Dec.{ltb}
 use borrow.Author.Tests.{ltb-true}
-use Rattle.lists.specs.Cut.{cut, endsWithin, window}
+use Rattle.lists.specs.Cut.{cut}
 use Rattle.lists.proofs.Every.{every-at}
 use Rattle.lists.proofs.Places.{getD-map}
 use Rattle.lists.proofs.Cut.{cut-at, ends-at, length-window, startOf}
-use Rattle.catalogue.specs.Catalogue.{maxBases, maxTargets}
+use Rattle.catalogue.specs.Catalogue.{maxBases}
 use Rattle.columns.specs.Posting.{Posting}
 use Rattle.seeds.specs.Seeds.{starts, seeds, Stored, Room}
-use Rattle.seeds.proofs.Storing.{length-seeds, stored-none, stored-join, stored-lengths}
-use Rattle.postings.specs.Index.{allSeeds, rankedSequences, Lent}
+use Rattle.seeds.proofs.Storing.{length-seeds, stored-none, stored-join}
+use Rattle.postings.specs.Index.{allSeeds, rankedSequences, Lent, SeedLength}
 
 -- ---- ranked sequences
+
+pub ranked-many : (bases ends ranked : List ℕ) → length (rankedSequences bases ends ranked) ≡ length ranked
+ranked-many bases ends ranked = length-map ranked (λ p. getD (cut ends bases) p [])
 
 module _ (bases ends ranked : List ℕ) (l : Lent bases ends ranked) (i : ℕ) (h : i < length ranked) where
   pub place-below : getD ranked i 0 < length ends
@@ -127,3 +129,21 @@ module _ (q : ℕ) (ss : List (List ℕ)) (ks₀ rs₀ os₀ : List ℕ) (room :
 
   pub filling-all : length ss ≤ rank → (at ≡ length (allSeeds q 0 ss)) × Stored 0 (allSeeds q 0 ss) ks₀ rs₀ os₀ ks rs os
   filling-all h = let e = reached-all q ss rank (f .done) (f .reached) h in (f .counted ∙ ap length e, rw e at (f .stored))
+
+-- ---- one rank more, for what is lent
+
+module _ (bases ends ranked : List ℕ) (q : ℕ) (p : Lent bases ends ranked × SeedLength q) (rank : ℕ) (h : rank < length ranked) where
+  ranked-inside : rank < length (rankedSequences bases ends ranked)
+  ranked-inside = omega (arith, ranked-many bases ends ranked)
+
+  pub counting-next : (count : ℕ) → Counting q (rankedSequences bases ends ranked) rank count → Counting q (rankedSequences bases ends ranked) (rank + 1) (count + starts q (getD (rankedSequences bases ends ranked) rank []))
+  counting-next count c = counting-more q (rankedSequences bases ends ranked) rank count c (p .1 .some) ranked-inside (ranked-length bases ends ranked (p .0) rank h)
+
+  module _ (ks₀ rs₀ os₀ : List ℕ) (room : Room 0 (length (allSeeds q 0 (rankedSequences bases ends ranked))) ks₀ rs₀ os₀) (at : ℕ) (ks rs os : List ℕ)
+      (f : Filling q (rankedSequences bases ends ranked) ks₀ rs₀ os₀ rank at ks rs os) (s : List ℕ) (e : s ≡ getD (rankedSequences bases ends ranked) rank []) where
+    pub room-next : Room at (starts q s) ks rs os
+    room-next = rw e (filling-room q (rankedSequences bases ends ranked) ks₀ rs₀ os₀ room rank at ks rs os f ranked-inside)
+
+    pub filling-next : (at′ : ℕ) (ks′ rs′ os′ : List ℕ) → at′ ≡ at + starts q s → length ks′ ≡ length ks → length rs′ ≡ length rs → length os′ ≡ length os → Stored at (seeds q rank s) ks rs os ks′ rs′ os′ → Filling q (rankedSequences bases ends ranked) ks₀ rs₀ os₀ (rank + 1) at′ ks′ rs′ os′
+    filling-next at′ ks′ rs′ os′ a lk lr lo st =
+        filling-more q (rankedSequences bases ends ranked) ks₀ rs₀ os₀ room rank at ks rs os f (p .1 .some) ranked-inside (ranked-length bases ends ranked (p .0) rank h) at′ ks′ rs′ os′ (rw e at a) lk lr lo (rw e at st)

@@ -3,8 +3,8 @@
 use native.Mathlib.Omega.{arith}
 use borrow.Author.Needs.{needs}
 use mathlib.Core.Path.{_≡_, refl, sym, ap, _∙_}
-use Prim.Native.Nat.{ℕ, _≤_, _-_, _+_}
-use lib.ListN.{length, drop, drop-of-length-le, getD}
+use Prim.Native.Nat.{_≤_, _-_}
+use lib.ListN.{length, drop, drop-of-length-le}
 use Rattle.lists.specs.Cut.{endsWithin}
 use Rattle.lists.proofs.Cut.{falls, passes-most, stays-within}
 use Rattle.catalogue.proofs.bounds.ends_within.Statement.{statement}

@@ -3,7 +3,7 @@
 use mathlib.Core.Path.{ap, _∙_}
 use native.Mathlib.Omega.{arith}
 use borrow.Author.Needs.{needs}
-use Prim.Native.Nat.{ℕ, _≤_, _-_, _+_}
+use Prim.Native.Nat.{_-_}
 use lib.ListN.{length}
 use lib.Dec.{leb}
 use borrow.Author.Tests.{lt-leb, le-leb}

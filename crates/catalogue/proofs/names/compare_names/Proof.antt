@@ -1,7 +1,7 @@
 -- `catalogue::names::compare_names` meets its contract. The invariant: the names are equal before byte i.
 -- Assumes nothing.
 use borrow.Author.Needs.{needs}
-use Prim.Native.Nat.{_≤_, _-_, _+_}
+use Prim.Native.Nat.{_-_}
 use lib.ListN.{length}
 use Rattle.catalogue.proofs.Naming.{Comparing, comparing-start, second-ends, less-byte, more-byte, same-byte, first-ends, both-end}
 use Rattle.catalogue.proofs.names.compare_names.Statement.{statement}

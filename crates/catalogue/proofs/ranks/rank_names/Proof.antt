@@ -21,13 +21,21 @@ returns : tie.Need-returns
 returns c = let a = c .before .before .before .before .before .before .before .before .before .args in let ns = cut (a .ends .now) (a .identifiers .now) in let o = c .before .before .before .order-names .ensures in names-refused ns (a .marks .now) (sym (o .distinct) ∙ not-true _ (c .if1 .taken)) _
 
 keep-linear-requires : tie.Need-keep-linear-requires
-keep-linear-requires c κs = let a = c .before .before .before .before .before .before .before .before .before .before .args in let ns = cut (a .ends .now) (a .identifiers .now) in let o = c .before .before .before .before .order-names .ensures in ap (every _) (o .places (not-false _ (c .before .if1 .left))) ∙ places-below ns _ (omega (arith, length-cut 0 (a .ends .now) (a .identifiers .now), c .before .before .before .before .before .before .before .before .before .before .pre .1 .1 .0))
+keep-linear-requires c κs =
+    let s = c .before .before .before .before .before .before .before .before .before .before in
+    let ns = cut (s .args .ends .now) (s .args .identifiers .now) in
+    let o = c .before .before .before .before .order-names .ensures in
+    ap (every _) (o .places (not-false _ (c .before .if1 .left))) ∙ places-below ns _ (omega (arith, length-cut 0 (s .args .ends .now) (s .args .identifiers .now), s .pre .1 .1 .0))
 
 same-length-2 : tie.Need-same-length-2
 same-length-2 c = search needs
 
 returns-2 : tie.Need-returns-2
-returns-2 c = let a = c .before .before .before .before .before .before .before .before .before .before .before .before .before .args in let ns = cut (a .ends .now) (a .identifiers .now) in let o = c .before .before .before .before .before .before .before .order-names .ensures in let d = not-false _ (c .before .before .before .before .if1 .left) in names-ranked ns (a .marks .now) (sym (o .distinct) ∙ d) _ _ _ (o .places d) (c .before .before .keep-linear .ensures)
+returns-2 c =
+    let a = c .before .before .before .before .before .before .before .before .before .before .before .before .before .args in
+    let o = c .before .before .before .before .before .before .before .order-names .ensures in
+    let d = not-false _ (c .before .before .before .before .if1 .left) in
+    names-ranked (cut (a .ends .now) (a .identifiers .now)) (a .marks .now) (sym (o .distinct) ∙ d) _ _ _ (o .places d) (c .before .before .keep-linear .ensures)
 
 pub rank-names-spec : {M : Type 1} → statement M
 rank-names-spec =

@@ -4,7 +4,6 @@ use native.Mathlib.Omega.{arith}
 use mathlib.Core.Path.{sym, _∙_}
 use lib.Seq.{length-take-le}
 use borrow.Author.Tests.{not-true, not-false}
-use Rattle.catalogue.specs.Catalogue.{Catalogue}
 use Rattle.catalogue.proofs.Checks.{bounded}
 use Rattle.catalogue.proofs.Refusals.{out-of-bounds, bad-bases, ranked-as}
 use borrow.Author.Needs.{needs}
@@ -15,28 +14,41 @@ in-bounds-requires : tie.Need-in-bounds-requires
 in-bounds-requires c κs = search needs
 
 returns : tie.Need-returns
-returns c = let a = c .before .before .before .before .before .before .before .before .args in let k : Catalogue = record { identifiers = a .identifiers .now; identifierEnds = a .identifier-ends .now; bases = a .bases .now; baseEnds = a .base-ends .now; marks = a .marks .now } in out-of-bounds k (sym (c .before .in-bounds .ensures) ∙ not-true _ (c .if1 .taken)) _
+returns c = out-of-bounds _ (sym (c .before .in-bounds .ensures) ∙ not-true _ (c .if1 .taken)) _
 
 all-proper-requires : tie.Need-all-proper-requires
-all-proper-requires c κs = let a = c .before .before .before .before .before .before .before .before .args in let k : Catalogue = record { identifiers = a .identifiers .now; identifierEnds = a .identifier-ends .now; bases = a .bases .now; baseEnds = a .base-ends .now; marks = a .marks .now } in let w = sym (c .before .in-bounds .ensures) ∙ not-false _ (c .if1 .left) in bounded k w .based
+all-proper-requires c κs = let w = sym (c .before .in-bounds .ensures) ∙ not-false _ (c .if1 .left) in bounded _ w .based
 
 returns-2 : tie.Need-returns-2
-returns-2 c = let a = c .before .before .before .before .before .before .before .before .before .before .args in let k : Catalogue = record { identifiers = a .identifiers .now; identifierEnds = a .identifier-ends .now; bases = a .bases .now; baseEnds = a .base-ends .now; marks = a .marks .now } in let w = sym (c .before .before .before .in-bounds .ensures) ∙ not-false _ (c .before .before .if1 .left) in bad-bases k w (sym (c .before .all-proper .ensures) ∙ not-true _ (c .if2 .taken)) _
+returns-2 c = let w = sym (c .before .before .before .in-bounds .ensures) ∙ not-false _ (c .before .before .if1 .left) in bad-bases _ w (sym (c .before .all-proper .ensures) ∙ not-true _ (c .if2 .taken)) _
 
 slice-relend-prefix-rank-names : tie.Need-slice-relend-prefix-rank-names
-slice-relend-prefix-rank-names c = let a = c .before .before .before .before .before .before .before .before .before .before .args in let k : Catalogue = record { identifiers = a .identifiers .now; identifierEnds = a .identifier-ends .now; bases = a .bases .now; baseEnds = a .base-ends .now; marks = a .marks .now } in let w = sym (c .before .before .before .in-bounds .ensures) ∙ not-false _ (c .before .before .if1 .left) in omega (arith, bounded k w .few, c .before .before .before .before .before .before .before .before .before .before .pre)
+slice-relend-prefix-rank-names c =
+    let b = bounded _ (sym (c .before .before .before .in-bounds .ensures) ∙ not-false _ (c .before .before .if1 .left)) in
+    omega (arith, b .few, c .before .before .before .before .before .before .before .before .before .before .pre)
 
 slice-aggregate-rank-names : tie.Need-slice-aggregate-rank-names
-slice-aggregate-rank-names c = let a = c .before .before .before .before .before .before .before .before .before .before .before .args in let k : Catalogue = record { identifiers = a .identifiers .now; identifierEnds = a .identifier-ends .now; bases = a .bases .now; baseEnds = a .base-ends .now; marks = a .marks .now } in let w = sym (c .before .before .before .before .in-bounds .ensures) ∙ not-false _ (c .before .before .before .if1 .left) in sym (length-take-le _ _ (omega (arith, bounded k w .few, c .before .before .before .before .before .before .before .before .before .before .before .pre)))
+slice-aggregate-rank-names c =
+    let t = c .before in
+    let b = bounded _ (sym (t .before .before .before .in-bounds .ensures) ∙ not-false _ (t .before .before .if1 .left)) in
+    sym (length-take-le _ _ (omega (arith, b .few, t .before .before .before .before .before .before .before .before .before .before .pre)))
 
 rank-names-requires : tie.Need-rank-names-requires
-rank-names-requires c κs = let a = c .before .before .before .before .before .before .before .before .before .before .before .args in let k : Catalogue = record { identifiers = a .identifiers .now; identifierEnds = a .identifier-ends .now; bases = a .bases .now; baseEnds = a .base-ends .now; marks = a .marks .now } in let w = sym (c .before .before .before .before .in-bounds .ensures) ∙ not-false _ (c .before .before .before .if1 .left) in let b = bounded k w in (b .named, (length-take-le _ _ (omega (arith, b .few, c .before .before .before .before .before .before .before .before .before .before .before .pre)), (b .marked, b .few)))
+rank-names-requires c κs =
+    let t = c .before in
+    let b = bounded _ (sym (t .before .before .before .in-bounds .ensures) ∙ not-false _ (t .before .before .if1 .left)) in
+    (b .named, (length-take-le _ _ (omega (arith, b .few, t .before .before .before .before .before .before .before .before .before .before .pre)), (b .marked, b .few)))
 
 same-length : tie.Need-same-length
 same-length c = search needs
 
 returns-3 : tie.Need-returns-3
-returns-3 c = let a = c .before .before .before .before .before .before .before .before .before .before .before .before .before .before .args in let k : Catalogue = record { identifiers = a .identifiers .now; identifierEnds = a .identifier-ends .now; bases = a .bases .now; baseEnds = a .base-ends .now; marks = a .marks .now } in let w = sym (c .before .before .before .before .before .before .before .in-bounds .ensures) ∙ not-false _ (c .before .before .before .before .before .before .if1 .left) in let p = sym (c .before .before .before .before .before .all-proper .ensures) ∙ not-false _ (c .before .before .before .before .if2 .left) in ranked-as k w p (c .before .before .rank-names .result) (c .before .before .rank-names .last .0) _ (c .before .before .rank-names .kept .0 ∙ length-take-le _ _ (omega (arith, bounded k w .few, c .before .before .before .before .before .before .before .before .before .before .before .before .before .before .pre))) (c .before .before .rank-names .ensures)
+returns-3 c =
+    let t = c .before .before .before .before in
+    let w = sym (t .before .before .before .in-bounds .ensures) ∙ not-false _ (t .before .before .if1 .left) in
+    let p = sym (t .before .all-proper .ensures) ∙ not-false _ (t .if2 .left) in
+    let r = c .before .before .rank-names in
+    ranked-as _ w p (r .result) (r .last .0) _ (r .kept .0 ∙ length-take-le _ _ (omega (arith, bounded _ w .few, t .before .before .before .before .before .before .before .before .before .before .pre))) (r .ensures)
 
 pub rank-targets-spec : {M : Type 1} → statement M
 rank-targets-spec =

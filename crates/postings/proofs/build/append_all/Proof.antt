@@ -1,16 +1,12 @@
+-- `postings::build::append_all` meets its contract. The invariant: the seeds of the first ranks are stored.
+-- Assumes nothing.
 use native.Mathlib.Omega.{arith}
-use lib.ListN.{length, getD, length-map}
-use mathlib.Core.List.{[]}
-use Rattle.lists.specs.Cut.{cut}
+use lib.ListN.{length}
 use Rattle.postings.specs.Index.{rankedSequences}
 use Prim.Native.Nat.{_-_}
-use Rattle.postings.proofs.Sequencing.{Filling, filling-none, filling-room, filling-more, filling-all, ranked-length}
+use Rattle.postings.proofs.Sequencing.{Filling, filling-none, room-next, filling-next, filling-all, ranked-many}
 use Rattle.postings.proofs.build.append_all.Statement.{statement}
 use Rattle.postings.proofs.build.append_all.Tie as tie
-use Rattle.postings.proofs.build.append_all.Reads as reads
-use Rattle.postings.proofs.build.append_all.Lts as lts
-use Rattle.postings.proofs.ranked.ranked_sequence.Reads as ranked-sequence-reads
-use Rattle.seeds.proofs.append.append_postings.Reads as append-postings-reads
 
 abbrev Inv-loop : tie.InvT-loop
 Inv-loop keys₀ ranks₀ positions₀ bases ends ranked q at₀ rank₀ keys ranks positions at rank = Filling q (rankedSequences bases ends ranked) keys₀ ranks₀ positions₀ rank at keys ranks positions
@@ -18,45 +14,45 @@ Inv-loop keys₀ ranks₀ positions₀ bases ends ranked q at₀ rank₀ keys ra
 abbrev μ-loop : tie.MeasureT-loop
 μ-loop keys₀ ranks₀ positions₀ bases ends ranked q at₀ rank₀ keys ranks positions at rank = length ranked - rank
 
--- src/build.rt:28:5
 loop-holds : tie.Need-loop-holds Inv-loop μ-loop
 loop-holds c = filling-none _ _ _ _ _
 
--- src/build.rt:29:13
 ranked-sequence-requires : tie.Need-ranked-sequence-requires Inv-loop μ-loop
 ranked-sequence-requires c κs = (c .before .before .before .before .before .before .before .before .pre .0 .0, c .loop-test .taken)
 
--- src/build.rt:30:9
 append-postings-requires : tie.Need-append-postings-requires Inv-loop μ-loop
-append-postings-requires c κs = let a = c .before .before .before .before .before .before .before .before .before .before .before .before .args in let l = c .before .before .before .before .before .before .before .before .before .before .before .before .pre .0 .0 in let ss = rankedSequences (a .bases .now) (a .ends .now) (a .ranked .now) in let z = length-map (a .ranked .now) (λ p. getD (cut (a .ends .now) (a .bases .now)) p []) in let s = c .before .before .before .before .before .before .before .before .before .before .before .before .pre .0 .1 in ((s .some, s .most), rw (c .before .before .before .ranked-sequence .ensures) (filling-room (a .q) ss (a .keys .now) (a .ranks .now) (a .positions .now) (c .before .before .before .before .before .before .before .before .before .before .before .before .pre .1) _ _ _ _ _ (c .before .before .before .before .before .loop .inv) (omega (arith, z, c .before .before .before .before .loop-test .taken))))
+append-postings-requires c κs =
+    let s = c .before .before .before .before .before .before .before .before .before .before .before .before in
+    let t = c .before .before .before .before in
+    ((s .pre .0 .1 .some, s .pre .0 .1 .most), room-next _ _ _ _ (s .pre .0) _ (t .loop-test .taken) _ _ _ (s .pre .1) _ _ _ _ (t .before .loop .inv) _ (c .before .before .before .ranked-sequence .ensures))
 
--- src/build.rt:31:9
 add-rank : tie.Need-add-rank Inv-loop μ-loop
 add-rank c = omega arith
 
--- src/build.rt:28:5
 loop-less : tie.Need-loop-less Inv-loop μ-loop
 loop-less c = omega arith
 
--- src/build.rt:28:5
 loop-again : tie.Need-loop-again Inv-loop μ-loop
-loop-again c = let a = c .before .before .before .before .before .before .before .before .before .before .before .before .before .before .before .before .before .before .before .args in let l = c .before .before .before .before .before .before .before .before .before .before .before .before .before .before .before .before .before .before .before .pre .0 .0 in let ss = rankedSequences (a .bases .now) (a .ends .now) (a .ranked .now) in let z = length-map (a .ranked .now) (λ p. getD (cut (a .ends .now) (a .bases .now)) p []) in let e = c .before .before .before .before .before .before .before .before .before .before .ranked-sequence .ensures in let p = c .before .before .before .before .before .before .append-postings in filling-more (a .q) ss (a .keys .now) (a .ranks .now) (a .positions .now) (c .before .before .before .before .before .before .before .before .before .before .before .before .before .before .before .before .before .before .before .pre .1) _ _ _ _ _ (c .before .before .before .before .before .before .before .before .before .before .before .before .loop .inv) (c .before .before .before .before .before .before .before .before .before .before .before .before .before .before .before .before .before .before .before .pre .0 .1 .some) (omega (arith, z, c .before .before .before .before .before .before .before .before .before .before .before .loop-test .taken)) (ranked-length (a .bases .now) (a .ends .now) (a .ranked .now) l _ (c .before .before .before .before .before .before .before .before .before .before .before .loop-test .taken)) _ _ _ _ (rw e at (p .ensures .0)) (p .kept .0) (p .kept .1 .0) (p .kept .1 .1 .0) (rw e at (p .ensures .1))
+loop-again c =
+    let s = c .before .before .before .before .before .before .before .before .before .before .before .before .before .before .before .before .before .before .before in
+    let t = c .before .before .before .before .before .before .before .before .before .before .before in
+    let p = c .before .before .before .before .before .before .append-postings in
+    filling-next _ _ _ _ (s .pre .0) _ (t .loop-test .taken) _ _ _ (s .pre .1) _ _ _ _ (t .before .loop .inv) _ (c .before .before .before .before .before .before .before .before .before .before .ranked-sequence .ensures) _ _ _ _ (p .ensures .0) (p .kept .0) (p .kept .1 .0) (p .kept .1 .1 .0) (p .ensures .1)
 
--- src/build.rt:12:1
 same-length : tie.Need-same-length Inv-loop μ-loop
 same-length c = c .before .loop .inv .lengths .0
 
--- src/build.rt:12:1
 same-length-2 : tie.Need-same-length-2 Inv-loop μ-loop
 same-length-2 c = c .before .loop .inv .lengths .1
 
--- src/build.rt:12:1
 same-length-3 : tie.Need-same-length-3 Inv-loop μ-loop
 same-length-3 c = c .before .loop .inv .lengths .2
 
--- src/build.rt:12:1
 returns : tie.Need-returns Inv-loop μ-loop
-returns c = let a = c .before .before .before .before .before .before .before .before .args in let l = c .before .before .before .before .before .before .before .before .pre .0 .0 in let ss = rankedSequences (a .bases .now) (a .ends .now) (a .ranked .now) in let z = length-map (a .ranked .now) (λ p. getD (cut (a .ends .now) (a .bases .now)) p []) in filling-all (a .q) ss (a .keys .now) (a .ranks .now) (a .positions .now) (c .before .before .before .before .before .before .before .before .pre .1) _ _ _ _ _ (c .before .loop .inv) (omega (arith, z, c .loop-test .left))
+returns c =
+    let s = c .before .before .before .before .before .before .before .before in
+    let many = ranked-many (s .args .bases .now) (s .args .ends .now) (s .args .ranked .now) in
+    filling-all _ _ _ _ _ (s .pre .1) _ _ _ _ _ (c .before .loop .inv) (omega (arith, many, c .loop-test .left))
 
 pub append-all-spec : {M : Type 1} → statement M
 append-all-spec =

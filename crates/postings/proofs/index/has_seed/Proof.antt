@@ -1,28 +1,22 @@
+-- `postings::index::has_seed` meets its contract: too short a sequence, too late a start, or the key decides.
+-- Assumes nothing.
 use Rattle.postings.proofs.Testing.{short-sequence, late-start, by-key}
 use borrow.Author.Needs.{needs}
 use Rattle.postings.proofs.index.has_seed.Statement.{statement}
 use Rattle.postings.proofs.index.has_seed.Tie as tie
-use Rattle.postings.proofs.index.has_seed.Reads as reads
-use Rattle.postings.proofs.index.has_seed.Lts as lts
-use Rattle.seeds.proofs.keys.key_at.Reads as key-at-reads
 
--- src/index.rt:26:9
 returns : tie.Need-returns
 returns c = let a = c .before .before .args in short-sequence (a .q) (a .sequence .now) (a .start) (a .key) (c .if1 .taken)
 
--- src/index.rt:28:8
 sub-if2 : tie.Need-sub-if2
 sub-if2 c = search needs
 
--- src/index.rt:29:9
 returns-2 : tie.Need-returns-2
 returns-2 c = let a = c .before .before .before .args in late-start (a .q) (a .sequence .now) (a .start) (a .key) (c .before .if1 .left) (c .if2 .taken)
 
--- src/index.rt:31:12
 key-at-requires : tie.Need-key-at-requires
 key-at-requires c κs = search needs
 
--- src/index.rt:21:1
 returns-3 : tie.Need-returns-3
 returns-3 c = let a = c .before .before .before .before .args in by-key (a .q) (a .sequence .now) (a .start) (a .key) (c .before .before .if1 .left) (c .before .if2 .left) _ (c .key-at .ensures)
 

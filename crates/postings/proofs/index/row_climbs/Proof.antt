@@ -1,24 +1,19 @@
+-- `postings::index::row_climbs` meets its contract: the first row, or the order of two neighbours.
+-- Assumes nothing.
 use Rattle.postings.proofs.Testing.{first-climbs, next-climbs}
 use borrow.Author.Needs.{needs}
 use Rattle.postings.proofs.index.row_climbs.Statement.{statement}
 use Rattle.postings.proofs.index.row_climbs.Tie as tie
-use Rattle.postings.proofs.index.row_climbs.Reads as reads
-use Rattle.postings.proofs.index.row_climbs.Lts as lts
-use Rattle.columns.proofs.precedes.Reads as precedes-reads
 
--- src/index.rt:51:9
 returns : tie.Need-returns
 returns c = let a = c .before .before .before .before .args in first-climbs (a .keys .now) (a .ranks .now) (a .positions .now) (a .i) (c .if1 .taken)
 
--- src/index.rt:53:38
 sub-precedes : tie.Need-sub-precedes
 sub-precedes c = search needs
 
--- src/index.rt:53:5
 precedes-requires : tie.Need-precedes-requires
 precedes-requires c κs = search needs
 
--- src/index.rt:46:1
 returns-2 : tie.Need-returns-2
 returns-2 c = let a = c .before .before .before .before .before .args in next-climbs (a .keys .now) (a .ranks .now) (a .positions .now) (a .i) (c .before .if1 .left) _ (c .precedes .ensures)
 

@@ -1,3 +1,5 @@
+-- `postings::index::rows_right` meets its contract. The invariant: the first i rows are seeds and climb.
+-- Assumes nothing.
 use native.Mathlib.Omega.{arith}
 use mathlib.Core.Path.{_∙_}
 use Prim.Native.Nat.{_-_}
@@ -7,13 +9,6 @@ use Rattle.postings.specs.Index.{rankedSequences}
 use Rattle.postings.proofs.Testing.{RowsTo, rows-none, rows-all, rows-more, no-seed, no-climb, row-seed}
 use Rattle.postings.proofs.index.rows_right.Statement.{statement}
 use Rattle.postings.proofs.index.rows_right.Tie as tie
-use Rattle.postings.proofs.index.rows_right.Reads as reads
-use Rattle.postings.proofs.index.rows_right.Lts as lts
-use Rattle.postings.proofs.index.is_seed.Reads as is-seed-reads
-use Rattle.postings.proofs.index.row_climbs.Reads as row-climbs-reads
-use Rattle.postings.proofs.read.posting_key.Reads as posting-key-reads
-use Rattle.postings.proofs.read.posting_position.Reads as posting-position-reads
-use Rattle.postings.proofs.read.posting_rank.Reads as posting-rank-reads
 
 abbrev Inv-loop : tie.InvT-loop
 Inv-loop keys ranks positions bases ends ranked q i₀ i = RowsTo q (rankedSequences bases ends ranked) keys ranks positions i
@@ -21,53 +16,53 @@ Inv-loop keys ranks positions bases ends ranked q i₀ i = RowsTo q (rankedSeque
 abbrev μ-loop : tie.MeasureT-loop
 μ-loop keys ranks positions bases ends ranked q i₀ i = length keys - i
 
--- src/index.rt:70:5
 loop-holds : tie.Need-loop-holds Inv-loop μ-loop
 loop-holds c = rows-none _ _ _ _ _
 
--- src/index.rt:71:13
 posting-key-requires : tie.Need-posting-key-requires Inv-loop μ-loop
 posting-key-requires c κs = c .loop-test .taken
 
--- src/index.rt:72:13
 posting-rank-requires : tie.Need-posting-rank-requires Inv-loop μ-loop
 posting-rank-requires c κs = let p = c .before .before .before .before .before .before .before .before .before .pre .0 in omega (arith, p .ranks, c .before .loop-test .taken)
 
--- src/index.rt:73:13
 posting-position-requires : tie.Need-posting-position-requires Inv-loop μ-loop
 posting-position-requires c κs = let p = c .before .before .before .before .before .before .before .before .before .before .pre .0 in omega (arith, p .positions, c .before .before .loop-test .taken)
 
--- src/index.rt:74:13
 is-seed-requires : tie.Need-is-seed-requires Inv-loop μ-loop
 is-seed-requires c κs = c .before .before .before .before .before .before .before .before .before .before .before .pre .1
 
--- src/index.rt:75:13
 returns : tie.Need-returns Inv-loop μ-loop
-returns c = let a = c .before .before .before .before .before .before .before .before .before .before .before .before .before .args in let ss = rankedSequences (a .bases .now) (a .ends .now) (a .ranked .now) in no-seed (a .q) ss (a .keys .now) (a .ranks .now) (a .positions .now) _ (c .before .before .before .before .before .before .loop .inv) (c .before .before .before .before .before .loop-test .taken) (row-seed (a .keys .now) (a .ranks .now) (a .positions .now) (a .q) ss _ _ _ _ _ (c .before .before .before .before .posting-key .ensures) (c .before .before .before .posting-rank .ensures) (c .before .before .posting-position .ensures) (c .before .is-seed .ensures) ∙ not-true _ (c .if1 .taken))
+returns c =
+    let t = c .before .before .before .before .before in
+    let a = t .before .before .before .before .before .before .before .before .args in
+    let seed =
+    row-seed (a .keys .now) (a .ranks .now) (a .positions .now) (a .q) (rankedSequences (a .bases .now) (a .ends .now) (a .ranked .now)) _ _ _ _ _ (c .before .before .before .before .posting-key .ensures) (c .before .before .before .posting-rank .ensures) (c .before .before .posting-position .ensures) (c .before .is-seed .ensures) in
+    no-seed _ _ _ _ _ _ (t .before .loop .inv) (t .loop-test .taken) (seed ∙ not-true _ (c .if1 .taken))
 
--- src/index.rt:77:13
 row-climbs-requires : tie.Need-row-climbs-requires Inv-loop μ-loop
-row-climbs-requires c κs = (c .before .before .before .before .before .before .before .before .before .before .before .before .before .pre .0, c .before .before .before .before .before .loop-test .taken)
+row-climbs-requires c κs = (c .before .before .before .before .before .before .before .before .before .before .before .before .before .pre .0, omega (arith, c .before .before .before .before .before .loop-test .taken))
 
--- src/index.rt:78:13
 returns-2 : tie.Need-returns-2 Inv-loop μ-loop
-returns-2 c = let a = c .before .before .before .before .before .before .before .before .before .before .before .before .before .before .before .args in let ss = rankedSequences (a .bases .now) (a .ends .now) (a .ranked .now) in no-climb (a .q) ss (a .keys .now) (a .ranks .now) (a .positions .now) _ (c .before .before .before .before .before .before .before .before .loop .inv) (c .before .before .before .before .before .before .before .loop-test .taken) (c .before .row-climbs .ensures .not-so (not-true _ (c .if2 .taken)))
+returns-2 c =
+    let t = c .before .before .before .before .before .before .before in
+    no-climb _ _ _ _ _ _ (t .before .loop .inv) (t .loop-test .taken) (c .before .row-climbs .ensures .not-so (not-true _ (c .if2 .taken)))
 
--- src/index.rt:80:9
 add-i : tie.Need-add-i Inv-loop μ-loop
 add-i c = omega arith
 
--- src/index.rt:70:5
 loop-less : tie.Need-loop-less Inv-loop μ-loop
 loop-less c = omega arith
 
--- src/index.rt:70:5
 loop-again : tie.Need-loop-again Inv-loop μ-loop
-loop-again c = let a = c .before .before .before .before .before .before .before .before .before .before .before .before .before .before .before .args in let ss = rankedSequences (a .bases .now) (a .ends .now) (a .ranked .now) in rows-more (a .q) ss (a .keys .now) (a .ranks .now) (a .positions .now) _ (c .before .before .before .before .before .before .before .before .loop .inv) (c .before .before .before .before .before .before .before .loop-test .taken) (row-seed (a .keys .now) (a .ranks .now) (a .positions .now) (a .q) ss _ _ _ _ _ (c .before .before .before .before .before .before .posting-key .ensures) (c .before .before .before .before .before .posting-rank .ensures) (c .before .before .before .before .posting-position .ensures) (c .before .before .before .is-seed .ensures) ∙ not-false _ (c .before .before .if1 .left)) (c .before .row-climbs .ensures .yes-so (not-false _ (c .if2 .left)))
+loop-again c =
+    let t = c .before .before .before .before .before .before .before in
+    let a = t .before .before .before .before .before .before .before .before .args in
+    let seed =
+    row-seed (a .keys .now) (a .ranks .now) (a .positions .now) (a .q) (rankedSequences (a .bases .now) (a .ends .now) (a .ranked .now)) _ _ _ _ _ (c .before .before .before .before .before .before .posting-key .ensures) (c .before .before .before .before .before .posting-rank .ensures) (c .before .before .before .before .posting-position .ensures) (c .before .before .before .is-seed .ensures) in
+    rows-more _ _ _ _ _ _ (t .before .loop .inv) (t .loop-test .taken) (seed ∙ not-false _ (c .before .before .if1 .left)) (c .before .row-climbs .ensures .yes-so (not-false _ (c .if2 .left)))
 
--- src/index.rt:57:1
 returns-3 : tie.Need-returns-3 Inv-loop μ-loop
-returns-3 c = let a = c .before .before .before .before .before .before .before .before .args in let ss = rankedSequences (a .bases .now) (a .ends .now) (a .ranked .now) in rows-all (a .q) ss (a .keys .now) (a .ranks .now) (a .positions .now) _ (c .before .loop .inv) (c .loop-test .left)
+returns-3 c = rows-all _ _ _ _ _ _ (c .before .loop .inv) (c .loop-test .left)
 
 pub rows-right-spec : {M : Type 1} → statement M
 rows-right-spec =
