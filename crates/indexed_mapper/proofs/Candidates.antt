@@ -117,9 +117,9 @@ module _ (q : ℕ) (ss : List (List ℕ)) (read : List ℕ) where
       pub after : o ≤ p .position
       pub within : p .position - o + length read ≤ length (getD ss (p .rank) [])
 
-    hit-∈ : (p : Posting) → p ∈ keep (lies q ss read o) (seedHits q ss read strand o) → Hit p
+    hit-∈ : (p : Posting) → p ∈ keep (lies ss (length read) o) (seedHits q ss read strand o) → Hit p
     hit-∈ p m =
-        let a = keep-∈ (lies q ss read o) p (seedHits q ss read strand o) m in
+        let a = keep-∈ (lies ss (length read) o) p (seedHits q ss read strand o) m in
         let b = keep-∈ (λ (x : Posting). eqb (x .key) (keyOf (window (oriented strand read) o q))) p (indexOf q ss) (a .0) in
         let c = and-true (leb o (p .position)) (leb (p .position - o + length read) (length (getD ss (p .rank) []))) (a .1) in
         record {
@@ -129,29 +129,29 @@ module _ (q : ℕ) (ss : List (List ℕ)) (read : List ℕ) where
           within = leb-true (p .position - o + length read) (length (getD ss (p .rank) [])) (c .1);
         }
 
-    ∈-hit : (p : Posting) → Hit p → p ∈ keep (lies q ss read o) (seedHits q ss read strand o)
+    ∈-hit : (p : Posting) → Hit p → p ∈ keep (lies ss (length read) o) (seedHits q ss read strand o)
     ∈-hit p h =
-        ∈-keep (lies q ss read o) p (seedHits q ss read strand o)
+        ∈-keep (lies ss (length read) o) p (seedHits q ss read strand o)
         (∈-keep (λ (x : Posting). eqb (x .key) (keyOf (window (oriented strand read) o q))) p (indexOf q ss) (seed-∈-index q ss p (h .seed)) (eq-eqb (p .key) (keyOf (window (oriented strand read) o q)) (h .keyed)))
         (rw (le-leb o (p .position) (h .after), le-leb (p .position - o + length read) (length (getD ss (p .rank) [])) (h .within)))
 
     pub candidates-ascending : Ascending before (candidatesAt q ss read strand o)
     candidates-ascending =
-        ascending-map earlier before (candidate q ss read strand o) (keep (lies q ss read o) (seedHits q ss read strand o)) order
-        (ascending-keep earlier (lies q ss read o) (seedHits q ss read strand o) (ascending-keep earlier (λ (x : Posting). eqb (x .key) (keyOf (window (oriented strand read) o q))) (indexOf q ss) (index-ascending q ss)))
+        ascending-map earlier before (candidate strand o) (keep (lies ss (length read) o) (seedHits q ss read strand o)) order
+        (ascending-keep earlier (lies ss (length read) o) (seedHits q ss read strand o) (ascending-keep earlier (λ (x : Posting). eqb (x .key) (keyOf (window (oriented strand read) o q))) (indexOf q ss) (index-ascending q ss)))
       where
-        by : (x y : Posting) → Hit x → Hit y → Before (x .key, x .rank, x .position) (y .key, y .rank, y .position) → before (candidate q ss read strand o x) (candidate q ss read strand o y) ≡ true
+        by : (x y : Posting) → Hit x → Hit y → Before (x .key, x .rank, x .position) (y .key, y .rank, y .position) → before (candidate strand o x) (candidate strand o y) ≡ true
         by x y h k (inl l) = absurd (omega (arith, h .keyed, k .keyed))
-        by x y h k (inr (e, inl l)) = before-test (triple (candidate q ss read strand o x)) (triple (candidate q ss read strand o y)) (inl l)
-        by x y h k (inr (e, inr (f, l))) = before-test (triple (candidate q ss read strand o x)) (triple (candidate q ss read strand o y)) (inr (f, inl (omega (arith, h .after, k .after))))
+        by x y h k (inr (e, inl l)) = before-test (triple (candidate strand o x)) (triple (candidate strand o y)) (inl l)
+        by x y h k (inr (e, inr (f, l))) = before-test (triple (candidate strand o x)) (triple (candidate strand o y)) (inr (f, inl (omega (arith, h .after, k .after))))
 
-        order : (x y : Posting) → x ∈ keep (lies q ss read o) (seedHits q ss read strand o) → y ∈ keep (lies q ss read o) (seedHits q ss read strand o) → earlier x y ≡ true → before (candidate q ss read strand o x) (candidate q ss read strand o y) ≡ true
+        order : (x y : Posting) → x ∈ keep (lies ss (length read) o) (seedHits q ss read strand o) → y ∈ keep (lies ss (length read) o) (seedHits q ss read strand o) → earlier x y ≡ true → before (candidate strand o x) (candidate strand o y) ≡ true
         order x y m k e = by x y (hit-∈ x m) (hit-∈ y k) (test-before (x .key, x .rank, x .position) (y .key, y .rank, y .position) e)
 
     -- a candidate is a fitting place of its strand
     candidates-∈ : strand < 2 → (z : Place) → z ∈ candidatesAt q ss read strand o → (z .strand ≡ strand) × Fits (length read) ss z
     candidates-∈ l z m =
-        let r = map-∈ (candidate q ss read strand o) z (keep (lies q ss read o) (seedHits q ss read strand o)) m in
+        let r = map-∈ (candidate strand o) z (keep (lies ss (length read) o) (seedHits q ss read strand o)) m in
         let h = hit-∈ (r .0) (r .1) in
         let a = and-true (ltb (r .0 .rank) (length ss) && ltb (r .0 .position) (starts q (getD ss (r .0 .rank) []))) (eqb (r .0 .key) (keyOf (window (getD ss (r .0 .rank) []) (r .0 .position) q))) (h .seed) in
         let b = and-true (ltb (r .0 .rank) (length ss)) (ltb (r .0 .position) (starts q (getD ss (r .0 .rank) []))) (a .0) in
@@ -160,7 +160,7 @@ module _ (q : ℕ) (ss : List (List ℕ)) (read : List ℕ) where
     -- a match on the strand is a candidate
     ∈-candidates : 1 ≤ q → o + q ≤ length read → (z : Place) → Fits (length read) ss z → z .strand ≡ strand → matches ss read z ≡ true → z ∈ candidatesAt q ss read strand o
     unfolding matches
-    ∈-candidates some room z f e m = rw pz (∈-map (candidate q ss read strand o) x (keep (lies q ss read o) (seedHits q ss read strand o)) (∈-hit x hit))
+    ∈-candidates some room z f e m = rw pz (∈-map (candidate strand o) x (keep (lies ss (length read) o) (seedHits q ss read strand o)) (∈-hit x hit))
       where
         s : List ℕ
         s = getD ss (z .rank) []
@@ -171,8 +171,8 @@ module _ (q : ℕ) (ss : List (List ℕ)) (read : List ℕ) where
         back : z .start + o - o ≡ z .start
         back = omega arith
 
-        pz : z ≡ candidate q ss read strand o x
-        pz = place-eq z (candidate q ss read strand o x) refl (sym back) e
+        pz : z ≡ candidate strand o x
+        pz = place-eq z (candidate strand o x) refl (sym back) e
 
         whole : take (length read) (drop (z .start) s) ≡ folded (oriented strand read)
         whole = same-true (window s (z .start) (length read)) (oriented (z .strand) (folded read)) m ∙ ap (λ d. oriented d (folded read)) e ∙ oriented-folded strand read

@@ -1,3 +1,4 @@
 pub mod Board
 pub mod Candidates
 pub mod Choosing
+pub mod Moving

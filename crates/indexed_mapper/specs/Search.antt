@@ -31,6 +31,19 @@ fewest count best (o ∷ os) = fewest count (cond (ltb (count o) (count best)) o
 abbrev pub rarest : ℕ → (ℕ → ℕ) → ℕ
 rarest n count = fewest count 0 (tried n count)
 
+-- ---- the candidate of a posting, for a seed at offset o of a read of n bases
+
+-- at position x, it neither starts before 0 nor ends past the m bases of its target
+abbrev pub fits : ℕ → ℕ → ℕ → ℕ → Bool
+fits m n o x = leb o x && leb (x - o + n) m
+
+abbrev pub lies : List (List ℕ) → ℕ → ℕ → Posting → Bool
+lies ss n o p = fits (length (getD ss (p .rank) [])) n o (p .position)
+
+-- its position less the seed's offset
+abbrev pub candidate : ℕ → ℕ → Posting → Place
+candidate strand o p = place (p .rank) (p .position - o) strand
+
 module _ (q : ℕ) (ss : List (List ℕ)) (read : List ℕ) where
   -- the postings of the seed at an offset of the read as it lies on a strand
   abbrev pub seedHits : ℕ → ℕ → List Posting
@@ -48,16 +61,8 @@ module _ (q : ℕ) (ss : List (List ℕ)) (read : List ℕ) where
 
   -- ---- candidates
 
-  -- a posting whose candidate neither starts before 0 nor ends past its target
-  abbrev pub lies : ℕ → Posting → Bool
-  lies o p = leb o (p .position) && leb (p .position - o + length read) (length (getD ss (p .rank) []))
-
-  -- a posting's position less the seed's offset
-  abbrev pub candidate : ℕ → ℕ → Posting → Place
-  candidate strand o p = place (p .rank) (p .position - o) strand
-
   abbrev pub candidatesAt : ℕ → ℕ → List Place
-  candidatesAt strand o = map (candidate strand o) (keep (lies o) (seedHits strand o))
+  candidatesAt strand o = map (candidate strand o) (keep (lies ss (length read) o) (seedHits strand o))
 
   abbrev pub candidates : ℕ → List Place
   candidates strand = candidatesAt strand (chosen strand)
@@ -84,7 +89,7 @@ module _ (q : ℕ) (ss : List (List ℕ)) (read : List ℕ) where
 
   -- the postings that a side examines: up to and with its candidate behind those that it moved on from
   abbrev pub examinedOn : ℕ → ℕ → ℕ
-  examinedOn limit strand = length (stopped (lies (chosen strand)) (seedHits strand (chosen strand)) (length (keep (onStrand strand) (passed limit))))
+  examinedOn limit strand = length (stopped (lies ss (length read) (chosen strand)) (seedHits strand (chosen strand)) (length (keep (onStrand strand) (passed limit))))
 
 -- the work of a search
 pub record Work : Type 0 where

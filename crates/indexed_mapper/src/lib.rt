@@ -1,2 +1,3 @@
 // The exact mapper.
+pub mod cursor;
 pub mod rarest;
