@@ -2,5 +2,5 @@ pub mod Board
 pub mod Candidates
 pub mod Choosing
 pub mod Moving
-pub mod First
 pub mod Waiting
+pub mod Filling

@@ -9,27 +9,17 @@ use lib.ListN.{length, getD, take, drop, length-take, length-drop}
 use lib.Seq.{getD-take, getD-drop, drop-drop}
 use Rattle.lists.specs.Keep.{keep}
 use Rattle.lists.specs.Limit.{goOn, stopped}
-use Rattle.lists.proofs.Places.{getD-map}
+use Rattle.lists.proofs.First.{First, first-kept, first-stopped, none-kept, none-stopped}
+use Rattle.lists.proofs.Places.{getD-map, drop-take}
 use Rattle.columns.specs.Posting.{Posting}
 use Rattle.columns.proofs.Rows.{none}
 use Rattle.seeds.specs.Seeds.{ranksOf, positionsOf}
 use Rattle.indexed_mapper.specs.Search.{lies}
 use Rattle.indexed_mapper.specs.Cursor.{postingAt, FirstAt, NoneFrom, Moved}
-use Rattle.indexed_mapper.proofs.First.{First, first-kept, first-stopped, none-kept, none-stopped}
 
 -- the postings from `next` up to `end`
 abbrev pub ahead : List Posting → ℕ → ℕ → List Posting
 ahead ps next end = take (end - next) (drop next ps)
-
-drop-take : {A : Type 0} (k n : ℕ) (xs : List A) → drop k (take n xs) ≡ take (n - k) (drop k xs)
-drop-take zero n xs = let e : n ≡ n - 0 = omega arith in ap (λ m. take m xs) e
-drop-take (suc k) zero xs = let e : 0 ≡ 0 - suc k = omega arith in ap (λ m. take m (drop (suc k) xs)) e
-drop-take {A = A} (suc k) (suc n) [] = nothing (suc n - suc k)
-  where
-    nothing : (m : ℕ) → _≡_ {A = List A} [] (take m [])
-    nothing zero = refl
-    nothing (suc m) = refl
-drop-take (suc k) (suc n) (x ∷ xs) = let e : n - k ≡ suc n - suc k = omega arith in drop-take k n xs ∙ ap (λ m. take m (drop k xs)) e
 
 module _ (ss : List (List ℕ)) (n o : ℕ) (ps : List Posting) where
   -- the columns' posting lies where the list's does
@@ -52,7 +42,7 @@ module _ (ss : List (List ℕ)) (n o : ℕ) (ps : List Posting) where
           record {
             inside = omega (arith, length-ahead, f .from, f .inside);
             failing = λ i h. ahead-at i (omega (arith, f .inside)) ∙ f .skipped (next + i) (omega arith) (omega arith);
-            passing = ahead-at (last - next) (omega (arith, f .from, f .inside)) ∙ ap (λ k. lies ss n o (postingAt (ranksOf ps) (positionsOf ps) k)) place ∙ f .here
+            passing = ahead-at (last - next) (omega (arith, f .from, f .inside)) ∙ ap (λ k. lies ss n o (postingAt (ranksOf ps) (positionsOf ps) k)) place ∙ f .here;
           }
 
       behind : drop (suc (last - next)) (ahead ps next end) ≡ ahead ps (suc last) end

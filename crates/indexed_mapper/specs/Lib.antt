@@ -1,3 +1,4 @@
 pub mod Search
 pub mod Choosing
 pub mod Cursor
+pub mod Entries

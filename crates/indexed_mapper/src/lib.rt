@@ -1,3 +1,4 @@
 // The exact mapper.
 pub mod cursor;
+pub mod entries;
 pub mod rarest;

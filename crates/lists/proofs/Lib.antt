@@ -9,6 +9,7 @@ pub mod Sort
 pub mod Permutation
 pub mod Triple
 pub mod Limit
+pub mod First
 pub mod Part
 pub mod Reverse
 pub mod Places
