@@ -13,12 +13,13 @@ use Rattle.lists.specs.Keep.{keep, every}
 use Rattle.lists.specs.Member.{_∈_}
 use Rattle.lists.specs.Order.{Apart, Ascending}
 use Rattle.lists.specs.Sort.{sort}
+use Rattle.lists.specs.Same.{same}
 use Rattle.lists.proofs.Cases.{by-test, clash, compare, and-true}
 use Rattle.lists.proofs.Member.{∈-map, map-∈}
 use Rattle.lists.proofs.Keep.{∈-keep, keep-∈}
 use Rattle.lists.proofs.Order.{order-by, ascending-keep, ascending-map, ascending-unique, apart-keep}
 use Rattle.lists.proofs.Sort.{sort-ascending, ∈-sort, sort-∈}
-use Rattle.catalogue.specs.Name.{nameBefore, sameName, distinctNames}
+use Rattle.catalogue.specs.Name.{nameBefore, distinctNames}
 use Rattle.catalogue.specs.Ordered.{numbers, placeBefore}
 use Rattle.catalogue.specs.Catalogue.{Catalogue, Target, targetsFrom, targets, names, sequences, isMapped, byName, inBounds, mapped}
 use Rattle.catalogue.specs.Ranking.{linearAt}
@@ -80,7 +81,7 @@ targets-apart k [] ss′ ms′ d = tt
 targets-apart k (n ∷ ns′) [] ms′ d = tt
 targets-apart k (n ∷ ns′) (s ∷ ss′) [] d = tt
 targets-apart k (n ∷ ns′) (s ∷ ss′) (m ∷ ms′) d =
-    (λ t h. let r = targets-∈ (suc k) ns′ ss′ ms′ t h in rw (ap (λ u. u .identifier) (r .2)) (names-apart (n ∷ ns′) d 0 (suc (r .0)) (omega arith) (omega arith) (λ e. omega arith)), targets-apart (suc k) ns′ ss′ ms′ (and-true (every (λ y. not (sameName n y)) ns′) (distinctNames ns′) d .1))
+    (λ t h. let r = targets-∈ (suc k) ns′ ss′ ms′ t h in rw (ap (λ u. u .identifier) (r .2)) (names-apart (n ∷ ns′) d 0 (suc (r .0)) (omega arith) (omega arith) (λ e. omega arith)), targets-apart (suc k) ns′ ss′ ms′ (and-true (every (λ y. not (same n y)) ns′) (distinctNames ns′) d .1))
 
 -- ---- ranks
 

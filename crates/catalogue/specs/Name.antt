@@ -4,6 +4,7 @@ use mathlib.Core.List.{List, [], _∷_}
 use Prim.Native.Nat.{ℕ}
 use lib.Dec.{ltb, eqb}
 use Rattle.lists.specs.Keep.{every}
+use Rattle.lists.specs.Same.{same}
 
 -- by the first byte that differs, as an unsigned number; a prefix before the longer
 abbrev pub nameBefore : List ℕ → List ℕ → Bool
@@ -11,13 +12,7 @@ nameBefore xs [] = false
 nameBefore [] (y ∷ ys) = true
 nameBefore (x ∷ xs) (y ∷ ys) = ltb x y || (eqb x y && nameBefore xs ys)
 
-abbrev pub sameName : List ℕ → List ℕ → Bool
-sameName [] [] = true
-sameName [] (y ∷ ys) = false
-sameName (x ∷ xs) [] = false
-sameName (x ∷ xs) (y ∷ ys) = eqb x y && sameName xs ys
-
 -- no name equals a later one
 abbrev pub distinctNames : List (List ℕ) → Bool
 distinctNames [] = true
-distinctNames (x ∷ xs) = every (λ y. not (sameName x y)) xs && distinctNames xs
+distinctNames (x ∷ xs) = every (λ y. not (same x y)) xs && distinctNames xs
