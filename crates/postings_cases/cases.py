@@ -320,4 +320,5 @@ def main():
     print(*(f"{k} {len(v)}" for k, v in groups.items()), f"numbered {len(plans)}", f"bytes {len(data)}", sep=", ")
 
 
-main()
+if __name__ == "__main__":
+    main()

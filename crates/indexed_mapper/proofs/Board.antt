@@ -1,42 +1,18 @@
--- Worked examples of searches, as one table.
+-- The worked examples hold: each is computed.
 -- Assumes nothing.
-use mathlib.Core.Path.{_≡_, refl}
-use mathlib.Core.List.{List, [], _∷_}
-use Prim.Native.Nat.{ℕ}
-use Rattle.bases.specs.Base.{A, C, G, T, codeOf, complementOf, upperOf}
+use mathlib.Core.Path.{refl}
+use Rattle.bases.specs.Base.{codeOf, complementOf, upperOf, isBase}
 use Rattle.bases.specs.Read.{reverseComplement}
+use Rattle.bases.specs.Eligibility.{eligibility}
+use Rattle.catalogue.specs.Catalogue.{inBounds, catalogueRefusal, mapped}
 use Rattle.seeds.specs.Key.{keyOf}
-use Rattle.postings.specs.Index.{indexOf}
-use Rattle.places.specs.Place.{place, places, matches, groups}
-use Rattle.indexed_mapper.specs.Search.{comparable, Work, work}
+use Rattle.postings.specs.Index.{indexOf, planRefusal, indexRefusal}
+use Rattle.places.specs.Place.{places, matches, groups}
+use Rattle.candidates.specs.Search.{comparable}
+use Rattle.indexed_mapper.specs.Work.{work}
+use Rattle.indexed_mapper.specs.Answer.{readRefusal, mapRefusal}
+use Rattle.indexed_mapper.specs.Board.{examples, AllHold}
 
--- the target ACGTACGT
-abbrev target : List (List ℕ)
-target = (A ∷ C ∷ G ∷ T ∷ A ∷ C ∷ G ∷ T ∷ []) ∷ []
-
-abbrev counts : ℕ → ℕ → ℕ → ℕ → ℕ → Work
-counts l h e c s = record { lookups = l; hits = h; examined = e; comparisons = c; seen = s }
-
-acg : work 3 target (A ∷ C ∷ G ∷ []) 10 ≡ counts 2 4 4 4 4
-unfolding indexOf keyOf codeOf complementOf upperOf reverseComplement places matches comparable
-acg = refl
-
-acg-1 : work 3 target (A ∷ C ∷ G ∷ []) 1 ≡ counts 2 4 3 2 2
-unfolding indexOf keyOf codeOf complementOf upperOf reverseComplement places matches comparable
-acg-1 = refl
-
-ac : work 3 target (A ∷ C ∷ []) 10 ≡ counts 0 0 0 14 4
-unfolding indexOf keyOf codeOf complementOf upperOf reverseComplement places matches comparable
-ac = refl
-
-aaa : work 3 target (A ∷ A ∷ A ∷ []) 10 ≡ counts 2 0 0 0 0
-unfolding indexOf keyOf codeOf complementOf upperOf reverseComplement places matches comparable
-aaa = refl
-
-long : work 3 target (C ∷ G ∷ T ∷ A ∷ C ∷ G ∷ T ∷ A ∷ []) 10 ≡ counts 12 2 2 0 0
-unfolding indexOf keyOf codeOf complementOf upperOf reverseComplement places matches comparable
-long = refl
-
-acg-groups : groups target (A ∷ C ∷ G ∷ []) ≡ place 0 0 0 ∷ place 0 1 1 ∷ place 0 4 0 ∷ place 0 5 1 ∷ []
-unfolding codeOf complementOf upperOf reverseComplement places matches groups
-acg-groups = refl
+pub board-holds : AllHold examples
+unfolding codeOf complementOf upperOf isBase reverseComplement eligibility inBounds catalogueRefusal mapped keyOf indexOf planRefusal indexRefusal places matches groups comparable work readRefusal mapRefusal
+board-holds = (refl, ((refl, refl), ((refl, refl), ((refl, refl), ((refl, refl), ((refl, refl), ((refl, refl), ((refl, refl), ((refl, refl), ((refl, refl), (refl, (refl, (refl, tt)))))))))))))

@@ -1,6 +1,9 @@
+pub mod Seeking
+pub mod Siding
+pub mod Merging
+pub mod Finding
+pub mod Readying
+pub mod Concluding
+pub mod Mapping
+pub mod Laws
 pub mod Board
-pub mod Candidates
-pub mod Choosing
-pub mod Moving
-pub mod Waiting
-pub mod Filling

@@ -1,4 +1,4 @@
-pub mod Search
-pub mod Choosing
-pub mod Cursor
-pub mod Entries
+pub mod Work
+pub mod Answer
+pub mod Board
+pub mod Laws

@@ -1,4 +1,4 @@
-// The exact mapper.
-pub mod cursor;
-pub mod entries;
-pub mod rarest;
+// The exact mapper: every placement of a read, base for base, or an honest "indeterminate".
+pub mod answer;
+pub mod map;
+pub mod search;

@@ -32,6 +32,10 @@ module _ {A : Type 0} (p : A → Bool) where
   keep-append [] ys = refl
   keep-append (x ∷ xs) ys = rw (keep-append xs ys) (by-test (p x) (λ e. rw e) (λ e. rw e))
 
+  pub length-keep : (xs : List A) → length (keep p xs) ≤ length xs
+  length-keep [] = omega arith
+  length-keep (x ∷ xs) = let e = length-keep xs in by-test (p x) (λ f. rw f (omega arith)) (λ f. rw f (omega arith))
+
   keep-none : (d : A) (xs : List A) → ((i : ℕ) → i < length xs → p (getD xs i d) ≡ false) → keep p xs ≡ []
   keep-none d [] h = refl
   keep-none d (x ∷ xs) h = rw (h 0 (omega arith)) (keep-none d xs (λ i k. h (suc i) (omega arith)))

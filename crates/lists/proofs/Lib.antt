@@ -10,7 +10,6 @@ pub mod Permutation
 pub mod Triple
 pub mod Limit
 pub mod First
-pub mod Walk
 pub mod Part
 pub mod Reverse
 pub mod Places

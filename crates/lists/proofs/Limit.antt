@@ -3,8 +3,8 @@
 use mathlib.Core.Path.{_≡_, refl, ap}
 use mathlib.Core.Bool.{Bool, true, false}
 use mathlib.Core.Logic.{_↔_}
-use mathlib.Core.List.{List, [], _∷_}
-use Prim.Native.Nat.{ℕ, zero, suc, _≤_, _<_}
+use mathlib.Core.List.{List, [], _∷_, _++_}
+use Prim.Native.Nat.{ℕ, zero, suc, _-_, _≤_, _<_}
 use native.Mathlib.Omega.{arith}
 use lib.ListN.{length, take, length-take}
 use Rattle.lists.specs.Keep.{keep, consIf}
@@ -34,3 +34,37 @@ module _ {A : Type 0} (p : A → Bool) where
   -- more than n matches are seen exactly if there are more than n
   pub stopped-past : (xs : List A) (n : ℕ) → (n < length (keep p (stopped p xs n))) ↔ (n < length (keep p xs))
   stopped-past xs n = rw (keep-stopped, length-take) (λ h. omega arith, λ h. omega arith)
+
+  -- no more is looked at than there is
+  pub length-stopped : (xs : List A) (n : ℕ) → length (stopped p xs n) ≤ length xs
+  length-stopped [] n = omega arith
+  length-stopped (x ∷ xs) n = omega (arith, go (λ m. length-stopped xs m) (p x) n)
+    where
+      go : ((m : ℕ) → length (stopped p xs m) ≤ length xs) → (b : Bool) (n : ℕ) → length (goOn b n (λ m. stopped p xs m)) ≤ length xs
+      go ih false n = ih n
+      go ih true zero = omega arith
+      go ih true (suc n) = ih n
+
+  -- a search that xs does not stop goes on behind it with what is left of the limit
+  pub stopped-append : (xs ys : List A) (n : ℕ) → length (keep p xs) ≤ n → stopped p (xs ++ ys) n ≡ xs ++ stopped p ys (n - length (keep p xs))
+  stopped-append [] ys n h = ap (λ k. stopped p ys k) all
+    where
+      all : n ≡ n - 0
+      all = omega arith
+  stopped-append (x ∷ xs) ys n h = ap (λ (l : List A). x ∷ l) (go (λ m. stopped-append xs ys m) (p x) n h)
+    where
+      go : ((m : ℕ) → length (keep p xs) ≤ m → stopped p (xs ++ ys) m ≡ xs ++ stopped p ys (m - length (keep p xs))) → (b : Bool) (n : ℕ) → length (consIf b x (keep p xs)) ≤ n
+          → goOn b n (λ m. stopped p (xs ++ ys) m) ≡ xs ++ stopped p ys (n - length (consIf b x (keep p xs)))
+      go ih false n h = ih n h
+      go ih true zero h = absurd (omega arith)
+      go ih true (suc n) h = let e : suc n - suc (length (keep p xs)) ≡ n - length (keep p xs) = omega arith in rw e (ih n (omega arith))
+
+  -- one that xs stops does not reach what follows
+  pub stopped-front : (xs ys : List A) (n : ℕ) → n < length (keep p xs) → stopped p (xs ++ ys) n ≡ stopped p xs n
+  stopped-front [] ys n h = absurd (omega arith)
+  stopped-front (x ∷ xs) ys n h = ap (λ (l : List A). x ∷ l) (go (λ m. stopped-front xs ys m) (p x) n h)
+    where
+      go : ((m : ℕ) → m < length (keep p xs) → stopped p (xs ++ ys) m ≡ stopped p xs m) → (b : Bool) (n : ℕ) → n < length (consIf b x (keep p xs)) → goOn b n (λ m. stopped p (xs ++ ys) m) ≡ goOn b n (λ m. stopped p xs m)
+      go ih false n h = ih n h
+      go ih true zero h = refl
+      go ih true (suc n) h = ih n (omega arith)

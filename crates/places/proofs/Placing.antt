@@ -16,7 +16,7 @@ use Rattle.lists.proofs.Keep.{∈-keep, keep-∈}
 use Rattle.lists.proofs.Order.{order-by, ascending-append, ascending-keep}
 use Rattle.lists.proofs.Triple.{before-test, lexicographic-order, lexicographic-total}
 use Rattle.seeds.specs.Seeds.{starts}
-use Rattle.places.specs.Place.{Place, place, triple, before, placesIn, placesFrom, places, matches, groups}
+use Rattle.places.specs.Place.{Place, Fits, place, triple, before, placesIn, placesFrom, places, matches, groups}
 
 -- ---- the order of places
 
@@ -32,12 +32,6 @@ before-total p q h k =
     place-eq p q (ap (λ t. t .0) e) (ap (λ t. t .1) e) (ap (λ t. t .2) e)
 
 -- ---- fitting places
-
--- n bases fit at a place
-pub record Fits (n : ℕ) (ss : List (List ℕ)) (p : Place) : Type 0 where
-  pub ranked : p .rank < length ss
-  pub inside : p .start + n ≤ length (getD ss (p .rank) [])
-  pub stranded : p .strand < 2
 
 placesIn-∈ : (r s k : ℕ) (p : Place) → p ∈ placesIn r s k → (p .rank ≡ r) × (s ≤ p .start) × (p .start < s + k) × (p .strand < 2)
 placesIn-∈ r s (suc k) p (inl e) = let a = ap (λ q. q .rank) e in let b = ap (λ q. q .start) e in let c = ap (λ q. q .strand) e in omega arith

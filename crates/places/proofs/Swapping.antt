@@ -17,8 +17,8 @@ use Rattle.lists.proofs.Order.{ascending-unique, distinct-apart, later-differs}
 use Rattle.lists.proofs.Sort.{sort-ascending, ∈-sort, sort-∈}
 use Rattle.bases.specs.Read.{oriented, reverseComplement}
 use Rattle.bases.proofs.Turning.{reverse-complement-twice, length-reverse-complement, folded-turned}
-use Rattle.places.specs.Place.{Place, place, before, folded, matches, groups, swapped}
-use Rattle.places.proofs.Placing.{Fits, before-order, before-total, place-eq, groups-∈, ∈-groups, groups-ascending}
+use Rattle.places.specs.Place.{Place, Fits, place, before, folded, matches, groups, swapped}
+use Rattle.places.proofs.Placing.{before-order, before-total, place-eq, groups-∈, ∈-groups, groups-ascending}
 
 pub swapped-twice : (p : Place) → p .strand < 2 → swapped (swapped p) ≡ p
 swapped-twice p h = place-eq (swapped (swapped p)) p refl refl (omega arith)

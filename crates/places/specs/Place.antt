@@ -1,7 +1,7 @@
 -- Places of a read in sequences by rank, and where it matches (REFERENCE.md, "Places").
 use mathlib.Core.Bool.{Bool}
 use mathlib.Core.List.{List, [], _∷_, _++_, map}
-use Prim.Native.Nat.{ℕ, zero, suc, _-_}
+use Prim.Native.Nat.{ℕ, zero, suc, _+_, _-_, _≤_, _<_}
 use lib.ListN.{length, getD}
 use Rattle.lists.specs.Keep.{keep}
 use Rattle.lists.specs.Same.{same}
@@ -26,6 +26,12 @@ triple p = (p .rank, p .start, p .strand)
 -- by rank, then start, then strand
 abbrev pub before : Place → Place → Bool
 before p q = lexicographic (triple p) (triple q)
+
+-- n bases fit at a place
+pub record Fits (n : ℕ) (ss : List (List ℕ)) (p : Place) : Type 0 where
+  pub ranked : p .rank < length ss
+  pub inside : p .start + n ≤ length (getD ss (p .rank) [])
+  pub stranded : p .strand < 2
 
 -- both strands at k starts from s on
 abbrev pub placesIn : ℕ → ℕ → ℕ → List Place

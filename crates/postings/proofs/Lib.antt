@@ -4,4 +4,3 @@ pub mod Indexing
 pub mod Testing
 pub mod Planning
 pub mod Searching
-pub mod Board

@@ -1,0 +1,5 @@
+pub mod Candidates
+pub mod Choosing
+pub mod Moving
+pub mod Waiting
+pub mod Sooner

@@ -1,0 +1,86 @@
+// The candidates of a seed's postings, one after the other.
+ghost use mathlib.Core.Path.{_≡_};
+ghost use lib.ListN.{length};
+ghost use Rattle.postings.specs.Index.{rankedSequences, Lent};
+ghost use Rattle.candidates.specs.Search.{fits};
+ghost use Rattle.candidates.specs.Cursor.{CursorIn, Taken};
+use postings::ranked::ranked_sequence;
+use postings::read::posting_position;
+use postings::read::posting_rank;
+
+// The postings from next up to end of a seed that stands at an offset of the read on a strand.
+pub struct OrientationCursor {
+    pub strand: u64,
+    pub offset: usize,
+    pub next: usize,
+    pub end: usize,
+}
+
+// A moved cursor, and the rank and start of its candidate if one was found.
+pub struct Candidate {
+    pub cursor: OrientationCursor,
+    pub found: bool,
+    pub rank: usize,
+    pub start: usize,
+}
+
+// Whether a target of m bases has room for a read of n bases whose base `offset` stands at a position.
+fn has_room(m: usize, n: usize, offset: usize, position: usize) -> bool
+    ensures { λ r. ⌜ r ≡ fits m n offset position ⌝ }
+{
+    if position < offset {
+        return false;
+    }
+    if m < n {
+        return false;
+    }
+    position - offset <= m - n
+}
+
+impl OrientationCursor {
+    // Moves on behind the next posting whose candidate, of n bases, lies within its target, or to the end.
+    pub fn next_candidate(
+        self,
+        bases: &[u8],
+        ends: &[usize],
+        ranked: &[usize],
+        ranks: &[u64],
+        positions: &[u64],
+        n: usize,
+    ) -> Candidate
+        requires { ⌜ Lent (now bases) (now ends) (now ranked) × CursorIn (now ranks) (now positions) (length (now ranked)) (self .next) (self .end) ⌝ }
+        ensures { λ r. ⌜ Taken (rankedSequences (now (bases .entry)) (now (ends .entry)) (now (ranked .entry))) n (now (ranks .entry)) (now (positions .entry)) self r ⌝ }
+    {
+        let mut i = self.next;
+        while i < self.end {
+            let rank = posting_rank(ranks, i);
+            let position = posting_position(positions, i);
+            let sequence = ranked_sequence(bases, ends, ranked, rank);
+            i += 1;
+            if has_room(sequence.len(), n, self.offset, position) {
+                return Candidate {
+                    cursor: OrientationCursor {
+                        strand: self.strand,
+                        offset: self.offset,
+                        next: i,
+                        end: self.end,
+                    },
+                    found: true,
+                    rank,
+                    start: position - self.offset,
+                };
+            }
+        }
+        Candidate {
+            cursor: OrientationCursor {
+                strand: self.strand,
+                offset: self.offset,
+                next: self.end,
+                end: self.end,
+            },
+            found: false,
+            rank: 0,
+            start: 0,
+        }
+    }
+}

@@ -1,0 +1,193 @@
+-- From the tests of a read to the answer of `map`.
+-- Assumes nothing.
+use mathlib.Core.Path.{_≡_, refl, ap, _∙_}
+use mathlib.Core.Bool.{Bool, true, false, _&&_}
+use mathlib.Core.List.{List, [], _∷_}
+use Prim.Native.Nat.{ℕ, zero, suc, _≤_, _<_}
+use native.Mathlib.Omega.{arith}
+use lib.ListN.{length, take}
+use lib.Dec.{leb, ltb, eqb}
+use borrow.Author.Tests.{le-leb, lt-leb, leb-true, eqb-true, ne-eqb}
+use Rattle.lists.specs.Keep.{every}
+use Rattle.lists.specs.Member.{_∈_}
+use Rattle.lists.specs.Same.{same}
+use Rattle.lists.proofs.Cases.{by-test, clash, and-true}
+use Rattle.lists.proofs.Cut.{length-cut}
+use Rattle.lists.proofs.Every.{every-at, ∈-every}
+use Rattle.lists.proofs.Member.{map-∈}
+use Rattle.lists.proofs.Same.{same-true}
+use Rattle.bases.specs.Base.{A, C, G, T, isBase, upperOf}
+use Rattle.catalogue.specs.Refusal.{unless, _orElse_}
+use Rattle.catalogue.specs.Name.{distinctNames}
+use Rattle.catalogue.specs.Catalogue.{Catalogue, Target, Valid, names, sequences, mapped, inBounds, properSequence, catalogueRefusal}
+use Rattle.catalogue.specs.Ranking.{rankingRefusal, RanksOf}
+use Rattle.catalogue.specs.declared.ranks.Ranking.{Ranking}
+use Rattle.catalogue.specs.declared.ranks.Ranking.the-variants.{Refused, Ranked}
+use Rattle.catalogue.proofs.Mapped.{mapped-∈, at-its-place}
+use Rattle.seeds.specs.Seeds.{keysOf, ranksOf, positionsOf}
+use Rattle.postings.specs.Index.{indexOf, mappedSequences, rankedSequences, seedRight, planRefusal, indexRefusal, columnsOf, Lent, SeedLength, Indexed}
+use Rattle.postings.specs.Answers.{PlanRanked}
+use Rattle.postings.proofs.Planning.{plan-right, no-refusal, ranked-mapped, test-refused}
+use Rattle.places.specs.Place.{Place, folded, groups}
+use Rattle.scan.specs.Entries.{entryCount}
+use Rattle.indexed_mapper.specs.Work.{Work, work}
+use Rattle.indexed_mapper.specs.Answer.{roomRefusal, maxRead, maxLimit, limitRight, readRefusal, mapRefusal, suppliedPlaces, Answered, IndexSearchable, MapsTo}
+use Rattle.indexed_mapper.specs.declared.answer.MapAnswer.{MapAnswer}
+use Rattle.indexed_mapper.specs.declared.answer.MapAnswer.the-variants as answers
+
+-- ---- refusals of a read and a limit
+
+module _ (read : List ℕ) (limit : ℕ) where
+  pub read-long : maxRead < length read → 7 ≡ readRefusal read limit
+  unfolding readRefusal
+  read-long h = rw (lt-leb (length read) maxRead h)
+
+  module _ (h : length read ≤ maxRead) where
+    pub read-improper : properSequence read ≡ false → 8 ≡ readRefusal read limit
+    unfolding readRefusal
+    read-improper e = rw (le-leb (length read) maxRead h, e)
+
+    module _ (proper : properSequence read ≡ true) where
+      pub limit-none : limit < 1 → 9 ≡ readRefusal read limit
+      unfolding readRefusal
+      limit-none l = rw (le-leb (length read) maxRead h, proper, lt-leb 1 limit l)
+
+      pub limit-past : 1 ≤ limit → maxLimit < limit → 9 ≡ readRefusal read limit
+      unfolding readRefusal
+      limit-past k l = rw (le-leb (length read) maxRead h, proper, le-leb 1 limit k, lt-leb limit maxLimit l)
+
+      pub read-accepted : 1 ≤ limit → limit ≤ maxLimit → 0 ≡ readRefusal read limit
+      unfolding readRefusal
+      read-accepted k l = rw (le-leb (length read) maxRead h, proper, le-leb 1 limit k, le-leb limit maxLimit l)
+
+  -- each number is below 10
+  pub read-below : readRefusal read limit < 10
+  unfolding readRefusal
+  read-below =
+      by-test (leb (length read) maxRead)
+      (λ e. by-test (properSequence read) (λ f. rw (e, f) (by-test (limitRight limit) (λ g. rw g (omega arith)) (λ g. rw g (omega arith)))) (λ f. rw (e, f) (omega arith)))
+      (λ e. rw e (omega arith))
+
+  -- a read that is not refused
+  read-right : readRefusal read limit ≡ 0 → (length read ≤ maxRead) × (every isBase read ≡ true)
+  unfolding readRefusal
+  read-right z =
+      by-test (leb (length read) maxRead)
+      (λ e. by-test (properSequence read)
+      (λ f. (leb-true (length read) maxRead e, and-true (ltb 0 (length read)) (every isBase read) f .1))
+      (λ f. absurd (omega (arith, rw (e, f) at z))))
+      (λ e. absurd (omega (arith, rw e at z)))
+
+-- a test that the four capitals pass
+pub at-capitals : (test : ℕ → Bool) → test A ≡ true → test C ≡ true → test G ≡ true → test T ≡ true → (b : ℕ) → isBase b ≡ true → test b ≡ true
+unfolding isBase
+at-capitals test a c g t b h =
+    by-test (eqb b A) (λ e. rw (eqb-true b A e) a)
+    (λ e. by-test (eqb b C) (λ f. rw (eqb-true b C f) c)
+    (λ f. by-test (eqb b G) (λ k. rw (eqb-true b G k) g)
+    (λ k. by-test (eqb b T) (λ l. rw (eqb-true b T l) t) (λ l. clash (rw (e, f, k, l) at h) refl))))
+
+-- a capital in upper case
+base-folded : (b : ℕ) → isBase b ≡ true → isBase (upperOf b) ≡ true
+unfolding isBase upperOf
+base-folded = at-capitals (λ b. isBase (upperOf b)) refl refl refl refl
+
+letters-folded : (bs : List ℕ) → every isBase bs ≡ true → every isBase (folded bs) ≡ true
+letters-folded [] t = refl
+letters-folded (b ∷ bs) t = let u = and-true (isBase b) (every isBase bs) t in rw (base-folded b (u .0)) (letters-folded bs (u .1))
+
+-- ---- the search of ranked sequences
+
+module _ (q : ℕ) (ss : List (List ℕ)) (ks rs os : List ℕ) where
+  held-indexed : columnsOf (indexOf q ss) ks rs os ≡ true → Indexed q ss ks rs os
+  held-indexed t =
+      let u = and-true (same ks (keysOf (indexOf q ss)) && same rs (ranksOf (indexOf q ss))) (same os (positionsOf (indexOf q ss))) t in
+      let v = and-true (same ks (keysOf (indexOf q ss))) (same rs (ranksOf (indexOf q ss))) (u .0) in
+      record {
+        keys = same-true ks (keysOf (indexOf q ss)) (v .0);
+        ranks = same-true rs (ranksOf (indexOf q ss)) (v .1);
+        positions = same-true os (positionsOf (indexOf q ss)) (u .1);
+      }
+
+-- what was tested is what a search by index is lent
+pub searchable : (q : ℕ) (bases ends ranked ks rs os read : List ℕ) (limit : ℕ) → Lent bases ends ranked → SeedLength q → every (λ (s : List ℕ). every isBase s) (rankedSequences bases ends ranked) ≡ true
+    → columnsOf (indexOf q (rankedSequences bases ends ranked)) ks rs os ≡ true → readRefusal read limit ≡ 0 → IndexSearchable q bases ends ranked ks rs os read
+searchable q bases ends ranked ks rs os read limit l s c t z =
+    let r = read-right read limit z in
+    record {
+      searchable = record { lent = l; capitals = c; letters = letters-folded read (r .1); short = r .0 };
+      seed = s;
+      indexed = held-indexed q (rankedSequences bases ends ranked) ks rs os t;
+    }
+
+-- ---- answers of a refusal
+
+-- the first refusal stands
+first-stands : (n m : ℕ) → (n ≡ 0 → ⊥) → n ≡ (n orElse m)
+first-stands zero m ne = absurd (ne refl)
+first-stands (suc n) m ne = refl
+
+module _ (ranked : List ℕ) (k limit : ℕ) (gs : List Place) (w : Work) (b : List ℕ) where
+  -- refused before a search, with nothing touched
+  refused-as : (n refusal : ℕ) → n ≡ refusal → (n ≡ 0 → ⊥) → n < 10 → Answered refusal ranked k limit gs w (answers.Refused n) b b
+  refused-as zero refusal e ne h = absurd (ne refl)
+  refused-as (suc n) refusal e ne h = rw (← e) (record { answer = refl; entries = rw (ne-eqb (suc n) 10 (λ z. omega arith)) refl })
+
+  module _ (t : Bool) (read-refusal room : ℕ) where
+    pub index-refused : t ≡ false → Answered (unless t 6 orElse read-refusal orElse room) ranked k limit gs w (answers.Refused 6) b b
+    index-refused e = refused-as 6 (unless t 6 orElse read-refusal orElse room) (rw e) (λ z. omega arith) (omega arith)
+
+    pub read-refused : t ≡ true → (n : ℕ) → n ≡ read-refusal → (n ≡ 0 → ⊥) → n < 10 → Answered (unless t 6 orElse read-refusal orElse room) ranked k limit gs w (answers.Refused n) b b
+    read-refused e n f ne h = refused-as n (unless t 6 orElse read-refusal orElse room) (rw (e, ← f) (first-stands n room ne)) ne h
+
+    pub not-refused : t ≡ true → read-refusal ≡ 0 → (r : MapAnswer) (b′ : List ℕ) → Answered room ranked k limit gs w r b b′ → Answered (unless t 6 orElse read-refusal orElse room) ranked k limit gs w r b b′
+    not-refused e f r b′ a = rw (e, f) a
+
+-- ---- from the ranking of a catalogue
+
+plan-below : (q : ℕ) (c : Catalogue) → planRefusal q c < 5
+unfolding planRefusal catalogueRefusal
+plan-below q c =
+    by-test (seedRight q)
+    (λ e. by-test (inBounds c)
+    (λ f. by-test (every properSequence (sequences c))
+    (λ g. rw (e, f, g) (by-test (distinctNames (names c)) (λ h. rw h (omega arith)) (λ h. rw h (omega arith))))
+    (λ g. rw (e, f, g) (omega arith)))
+    (λ f. rw (e, f) (omega arith)))
+    (λ e. rw e (omega arith))
+
+module _ (q : ℕ) (c : Catalogue) (r : Ranking) (buffer : List ℕ) (p : PlanRanked q c r buffer) where
+  -- the sequences of a catalogue that is not refused are capitals
+  pub ranked-capitals : (k : ℕ) → r ≡ Ranked k → every (λ (s : List ℕ). every isBase s) (rankedSequences (c .bases) (c .baseEnds) (take k buffer)) ≡ true
+  ranked-capitals k e = rw (ranked-mapped q c r buffer p k e) (∈-every (λ (s : List ℕ). every isBase s) (mappedSequences c) proper)
+    where
+      right : Valid c
+      right = plan-right q c (no-refusal q c r buffer p k e) .1
+
+      proper : (s : List ℕ) → s ∈ mappedSequences c → every isBase s ≡ true
+      proper s m =
+          let w = map-∈ (λ (t : Target). t .bases) s (mapped c) m in
+          let a = at-its-place c (right .bounds) (w .0) (mapped-∈ c (w .0) (w .1) .0) in
+          let l = every-at properSequence [] (sequences c) (right .letters) (w .0 .place) (omega (arith, a .0, length-cut 0 (c .baseEnds) (c .bases))) in
+          and-true (ltb 0 (length s)) (every isBase s) (ap properSequence (w .2 ∙ a .1) ∙ l) .1
+
+  module _ (ks rs os read : List ℕ) (limit : ℕ) (b : List ℕ) where
+    pub map-refused : (n : ℕ) → r ≡ Refused n → MapsTo q c ks rs os read limit (answers.Refused n) b b
+    unfolding mapRefusal
+    map-refused n e =
+        let ne : n ≡ 0 → ⊥ = rw e at (p .ranks) in
+        let rest : ℕ = readRefusal read limit orElse roomRefusal (entryCount b) limit (length (groups (mappedSequences c) read)) in
+        refused-as (suppliedPlaces c) (length read) limit (groups (mappedSequences c) read) (work q (mappedSequences c) read limit) b n (indexRefusal q c ks rs os orElse rest)
+        (first-stands n rest ne ∙ ap (λ m. m orElse rest) (test-refused q c r buffer p n e ks rs os)) ne
+        (omega (arith, ap rankingRefusal e, p .refusal, plan-below q c))
+
+    module _ (k : ℕ) (e : r ≡ Ranked k) where
+      abbrev ss : List (List ℕ)
+      ss = rankedSequences (c .bases) (c .baseEnds) (take k buffer)
+
+      -- the answer for the ranked sequences is that for the catalogue
+      pub map-done : (x : MapAnswer) (b′ : List ℕ) → Answered (unless (columnsOf (indexOf q ss) ks rs os) 6 orElse readRefusal read limit orElse roomRefusal (entryCount b) limit (length (groups ss read))) (take k buffer) (length read) limit (groups ss read) (work q ss read limit) x b b′ → MapsTo q c ks rs os read limit x b b′
+      unfolding mapRefusal indexRefusal
+      map-done x b′ a =
+          let ranks : RanksOf c k buffer = rw e at (p .ranks) in
+          rw (no-refusal q c r buffer p k e) (rw (ranked-mapped q c r buffer p k e, ranks .places) at a)

@@ -1,0 +1,90 @@
+-- `scan::visit::visit` meets its contract.
+-- Assumes nothing.
+use mathlib.Core.Path.{_∙_}
+use native.Mathlib.Omega.{arith}
+use borrow.Author.Needs.{needs}
+use borrow.Author.Tests.{not-true, not-false}
+use Rattle.postings.specs.Index.{rankedSequences}
+use Rattle.places.specs.Place.{place}
+use Rattle.scan.proofs.Going.{place-differs, place-past, place-entered}
+use Rattle.scan.proofs.Visiting.{fit-ranked, fit-end, fit-inside, fit-capitals, fit-matches}
+use Rattle.scan.proofs.visit.visit.Statement.{statement}
+use Rattle.scan.proofs.visit.visit.Tie as tie
+
+add-comparisons : tie.Need-add-comparisons
+add-comparisons c = search needs
+
+ranked-sequence-requires : tie.Need-ranked-sequence-requires
+ranked-sequence-requires c κs =
+    let s = c .before .before .before .before .before .before in let a = s .args in let p = place (a .rank) (a .start) (a .strand) in
+    (s .pre .0 .lent, fit-ranked (a .bases .now) (a .ends .now) (a .ranked .now) (a .read .now) (s .pre .0) p (s .pre .1 .0))
+
+stands-at-requires : tie.Need-stands-at-requires
+stands-at-requires c κs =
+    let s = c .before .before .before .before .before .before .before in let a = s .args in let p = place (a .rank) (a .start) (a .strand) in
+    let e = c .ranked-sequence .ensures in
+    (fit-inside (a .bases .now) (a .ends .now) (a .ranked .now) (a .read .now) (s .pre .0) p (s .pre .1 .0) _ e, (fit-capitals (a .bases .now) (a .ends .now) (a .ranked .now) (a .read .now) (s .pre .0) p (s .pre .1 .0) _ e, s .pre .0 .letters))
+
+returns : tie.Need-returns
+returns c =
+    let s = c .before .before .before .before .before .before .before .before .before in let a = s .args in let p = place (a .rank) (a .start) (a .strand) in
+    let ss = rankedSequences (a .bases .now) (a .ends .now) (a .ranked .now) in
+    place-differs ss _ _ _ p _ _ _ (fit-matches (a .bases .now) (a .ends .now) (a .ranked .now) (a .read .now) (s .pre .0) p (s .pre .1 .0) _ (c .before .before .ranked-sequence .ensures) _ (c .before .stands-at .ensures) ∙ not-true _ (c .if1 .taken))
+
+add-t16 : tie.Need-add-t16
+add-t16 c = search needs
+
+returns-2 : tie.Need-returns-2
+returns-2 c =
+    let s = c .before .before .before .before .before .before .before .before .before .before in let a = s .args in let p = place (a .rank) (a .start) (a .strand) in
+    let ss = rankedSequences (a .bases .now) (a .ends .now) (a .ranked .now) in
+    place-past ss _ _ _ p _ _ _ (fit-matches (a .bases .now) (a .ends .now) (a .ranked .now) (a .read .now) (s .pre .0) p (s .pre .1 .0) _ (c .before .before .before .ranked-sequence .ensures) _ (c .before .before .stands-at .ensures) ∙ not-false _ (c .before .if1 .left)) (omega (arith, c .if2 .taken, s .pre .1 .1 .within))
+
+mul-write-entry : tie.Need-mul-write-entry
+mul-write-entry c =
+    let s = c .before .before .before .before .before .before .before .before .before .before .before in let a = s .args in let p = place (a .rank) (a .start) (a .strand) in
+    omega (arith, fit-ranked (a .bases .now) (a .ends .now) (a .ranked .now) (a .read .now) (s .pre .0) p (s .pre .1 .0), s .pre .0 .lent .few)
+
+shared-slice-read-write-entry : tie.Need-shared-slice-read-write-entry
+shared-slice-read-write-entry c =
+    let s = c .before .before .before .before .before .before .before .before .before .before .before .before in let a = s .args in let p = place (a .rank) (a .start) (a .strand) in
+    fit-ranked (a .bases .now) (a .ends .now) (a .ranked .now) (a .read .now) (s .pre .0) p (s .pre .1 .0)
+
+add-write-entry : tie.Need-add-write-entry
+add-write-entry c =
+    let s = c .before .before .before .before .before .before .before .before .before .before .before .before in let a = s .args in let p = place (a .rank) (a .start) (a .strand) in
+    omega (arith, fit-end (a .bases .now) (a .ends .now) (a .ranked .now) (a .read .now) (s .pre .0) p (s .pre .1 .0))
+
+write-entry-requires : tie.Need-write-entry-requires
+write-entry-requires c κs = search needs
+
+add-t20 : tie.Need-add-t20
+add-t20 c = search needs
+
+same-length : tie.Need-same-length
+same-length c = search needs
+
+returns-3 : tie.Need-returns-3
+returns-3 c =
+    let s = c .before .before .before .before .before .before .before .before .before .before .before .before .before .before .before in let a = s .args in let p = place (a .rank) (a .start) (a .strand) in
+    let ss = rankedSequences (a .bases .now) (a .ends .now) (a .ranked .now) in
+    let k = place-entered ss (a .ranked .now) (a .read .now) (a .bound) p (a .tally .comparisons) (a .tally .seen) (a .entries .now) (fit-matches (a .bases .now) (a .ends .now) (a .ranked .now) (a .read .now) (s .pre .0) p (s .pre .1 .0) _ (c .before .before .before .before .before .before .before .before .ranked-sequence .ensures) _ (c .before .before .before .before .before .before .before .stands-at .ensures) ∙ not-false _ (c .before .before .before .before .before .before .if1 .left)) (omega (arith, c .before .before .before .before .before .if2 .left)) in
+    rw (c .before .before .write-entry .ensures) k
+
+pub visit-spec : {M : Type 1} → statement M
+visit-spec =
+    tie.close
+    (tie.spec
+    add-comparisons
+    ranked-sequence-requires
+    stands-at-requires
+    returns
+    add-t16
+    returns-2
+    mul-write-entry
+    shared-slice-read-write-entry
+    add-write-entry
+    write-entry-requires
+    add-t20
+    same-length
+    returns-3)

@@ -1,0 +1,4 @@
+// Placement entries, one place compared, and the search at every start.
+pub mod entries;
+pub mod every_start;
+pub mod visit;
