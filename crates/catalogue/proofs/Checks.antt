@@ -1,7 +1,7 @@
 -- The tests of refusals 2 and 3, put together.
 -- Assumes nothing.
-use mathlib.Core.Path.{_≡_, refl, sym, ap, _∙_}
-use mathlib.Core.Bool.{true, false, not, _&&_, Bool·beq}
+use mathlib.Core.Path.{_≡_, sym, ap, _∙_}
+use mathlib.Core.Bool.{true, false, _&&_}
 use mathlib.Core.List.{List}
 use Prim.Native.Nat.{ℕ, _<_, _≤_, min}
 use native.Mathlib.Omega.{arith}
@@ -10,25 +10,32 @@ use lib.Dec.{leb, eqb}
 use borrow.Author.Tests.{eqb-true, leb-true, lt-ltb, lt-leb, le-leb, eq-eqb, ne-eqb}
 use Rattle.lists.specs.Keep.{every}
 use Rattle.lists.specs.Cut.{endsWithin}
-use Rattle.lists.proofs.Cases.{and-true, beq-true}
-use Rattle.lists.proofs.Below.{passes-at}
+use Rattle.lists.proofs.Cases.{and-true}
 use Rattle.lists.proofs.Cut.{ends-weaken}
-use Rattle.bases.specs.Base.{isBase, codeOf, mark}
+use Rattle.bases.specs.Base.{A, C, G, isBase}
 use Rattle.catalogue.specs.Catalogue.{Catalogue, names, maxTargets, maxIdentifier, maxBases, countsRight, endsRight, valuesRight, inBounds, properSequence}
 
 -- ---- capitals
 
--- a byte is a capital of ACGT exactly if it stands below the small letters and has a code
-capital : (b : ℕ) → b < 256 → isBase b ≡ (leb b 96 && not (eqb (codeOf b) mark))
-unfolding isBase codeOf
-capital b h = beq-true _ _ (passes-at (λ b. Bool·beq (isBase b) (leb b 96 && not (eqb (codeOf b) mark))) 256 refl b h)
+-- a byte is a capital of ACGT by the first letter that it equals
+module _ (b : ℕ) where
+  pub is-A : b ≡ 65 → true ≡ isBase b
+  unfolding isBase
+  is-A e = rw (eq-eqb b A e)
 
-module _ (b : ℕ) (byte : b < 256) where
-  pub small-letter : 96 < b → false ≡ isBase b
-  small-letter h = sym (capital b byte ∙ ap (λ t. t && not (eqb (codeOf b) mark)) (lt-leb b 96 h))
+  module _ (not-A : b ≡ 65 → ⊥) where
+    pub is-C : b ≡ 67 → true ≡ isBase b
+    unfolding isBase
+    is-C e = rw (ne-eqb b A not-A, eq-eqb b C e)
 
-  pub by-code : b ≤ 96 → not (eqb (codeOf b) mark) ≡ isBase b
-  by-code h = sym (capital b byte ∙ ap (λ t. t && not (eqb (codeOf b) mark)) (le-leb b 96 h))
+    module _ (not-C : b ≡ 67 → ⊥) where
+      pub is-G : b ≡ 71 → true ≡ isBase b
+      unfolding isBase
+      is-G e = rw (ne-eqb b A not-A, ne-eqb b C not-C, eq-eqb b G e)
+
+      pub or-T : (b ≡ 71 → ⊥) → eqb b 84 ≡ isBase b
+      unfolding isBase
+      or-T not-G = rw (ne-eqb b A not-A, ne-eqb b C not-C, ne-eqb b G not-G)
 
 pub empty-sequence : (s : List ℕ) → length s ≡ 0 → false ≡ properSequence s
 empty-sequence s h = rw h

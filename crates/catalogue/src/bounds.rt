@@ -9,8 +9,6 @@ ghost use Rattle.lists.specs.Keep.{every};
 ghost use Rattle.lists.specs.Cut.{cut, endsWithin};
 ghost use Rattle.bases.specs.Base.{isBase};
 ghost use Rattle.catalogue.specs.Catalogue.{lentCatalogue, countsRight, endsRight, valuesRight, inBounds, properSequence, sequences};
-use bases::base::MARK;
-use bases::base::code;
 
 pub const MAX_TARGETS: usize = 4096;
 
@@ -130,14 +128,20 @@ fn all_capitals(bases: &[u8]) -> bool
     true
 }
 
-// A capital has a code and stands below the small letters.
+// Whether a byte is a capital of ACGT.
 fn is_base(b: u8) -> bool
     ensures { λ r. ⌜ r ≡ isBase b ⌝ }
 {
-    if 96 < b {
-        return false;
+    if b == 65 {
+        return true;
     }
-    code(b) != MARK
+    if b == 67 {
+        return true;
+    }
+    if b == 71 {
+        return true;
+    }
+    b == 84
 }
 
 // Whether every target's sequence is proper: refusal 3 where some is not.

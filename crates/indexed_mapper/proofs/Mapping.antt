@@ -31,7 +31,7 @@ use Rattle.postings.proofs.Planning.{plan-right, no-refusal, ranked-mapped, tes
 use Rattle.places.specs.Place.{Place, folded, groups}
 use Rattle.scan.specs.Entries.{entryCount}
 use Rattle.indexed_mapper.specs.Work.{Work, work}
-use Rattle.indexed_mapper.specs.Answer.{roomRefusal, maxRead, maxLimit, limitRight, readRefusal, mapRefusal, suppliedPlaces, Answered, IndexSearchable, MapsTo}
+use Rattle.indexed_mapper.specs.Answer.{roomRefusal, maxRead, maxLimit, limitRight, readRefusal, mapRefusal, suppliedPlaces, Answered, IndexSearchable, Mappable, MapsTo}
 use Rattle.indexed_mapper.specs.declared.answer.MapAnswer.{MapAnswer}
 use Rattle.indexed_mapper.specs.declared.answer.MapAnswer.the-variants as answers
 
@@ -109,15 +109,19 @@ module _ (q : ℕ) (ss : List (List ℕ)) (ks rs os : List ℕ) where
         positions = same-true os (positionsOf (indexOf q ss)) (u .1);
       }
 
--- what was tested is what a search by index is lent
-pub searchable : (q : ℕ) (bases ends ranked ks rs os read : List ℕ) (limit : ℕ) → Lent bases ends ranked → SeedLength q → every (λ (s : List ℕ). every isBase s) (rankedSequences bases ends ranked) ≡ true
-    → columnsOf (indexOf q (rankedSequences bases ends ranked)) ks rs os ≡ true → readRefusal read limit ≡ 0 → IndexSearchable q bases ends ranked ks rs os read
-searchable q bases ends ranked ks rs os read limit l s c t z =
+-- an index that was tested
+pub mappable : (q : ℕ) (bases ends ranked ks rs os : List ℕ) → Lent bases ends ranked → SeedLength q → every (λ (s : List ℕ). every isBase s) (rankedSequences bases ends ranked) ≡ true
+    → columnsOf (indexOf q (rankedSequences bases ends ranked)) ks rs os ≡ true → Mappable q bases ends ranked ks rs os
+mappable q bases ends ranked ks rs os l s c t = record { lent = l; capitals = c; seed = s; indexed = held-indexed q (rankedSequences bases ends ranked) ks rs os t }
+
+-- with a read that was tested it is what a search by index is lent
+pub searchable : (q : ℕ) (bases ends ranked ks rs os read : List ℕ) (limit : ℕ) → Mappable q bases ends ranked ks rs os → readRefusal read limit ≡ 0 → IndexSearchable q bases ends ranked ks rs os read
+searchable q bases ends ranked ks rs os read limit m z =
     let r = read-right read limit z in
     record {
-      searchable = record { lent = l; capitals = c; letters = letters-folded read (r .1); short = r .0 };
-      seed = s;
-      indexed = held-indexed q (rankedSequences bases ends ranked) ks rs os t;
+      searchable = record { lent = m .lent; capitals = m .capitals; letters = letters-folded read (r .1); short = r .0 };
+      seed = m .seed;
+      indexed = m .indexed;
     }
 
 -- ---- answers of a refusal
@@ -133,15 +137,19 @@ module _ (ranked : List ℕ) (k limit : ℕ) (gs : List Place) (w : Work) (b : L
   refused-as zero refusal e ne h = absurd (ne refl)
   refused-as (suc n) refusal e ne h = rw (← e) (record { answer = refl; entries = rw (ne-eqb (suc n) 10 (λ z. omega arith)) refl })
 
-  module _ (t : Bool) (read-refusal room : ℕ) where
-    pub index-refused : t ≡ false → Answered (unless t 6 orElse read-refusal orElse room) ranked k limit gs w (answers.Refused 6) b b
-    index-refused e = refused-as 6 (unless t 6 orElse read-refusal orElse room) (rw e) (λ z. omega arith) (omega arith)
+  module _ (t : Bool) (rest : ℕ) where
+    pub index-refused : t ≡ false → Answered (unless t 6 orElse rest) ranked k limit gs w (answers.Refused 6) b b
+    index-refused e = refused-as 6 (unless t 6 orElse rest) (rw e) (λ z. omega arith) (omega arith)
 
-    pub read-refused : t ≡ true → (n : ℕ) → n ≡ read-refusal → (n ≡ 0 → ⊥) → n < 10 → Answered (unless t 6 orElse read-refusal orElse room) ranked k limit gs w (answers.Refused n) b b
-    read-refused e n f ne h = refused-as n (unless t 6 orElse read-refusal orElse room) (rw (e, ← f) (first-stands n room ne)) ne h
+    pub index-right : t ≡ true → (r : MapAnswer) (b′ : List ℕ) → Answered rest ranked k limit gs w r b b′ → Answered (unless t 6 orElse rest) ranked k limit gs w r b b′
+    index-right e r b′ a = rw e a
 
-    pub not-refused : t ≡ true → read-refusal ≡ 0 → (r : MapAnswer) (b′ : List ℕ) → Answered room ranked k limit gs w r b b′ → Answered (unless t 6 orElse read-refusal orElse room) ranked k limit gs w r b b′
-    not-refused e f r b′ a = rw (e, f) a
+  module _ (read-refusal room : ℕ) where
+    pub read-refused : (n : ℕ) → n ≡ read-refusal → (n ≡ 0 → ⊥) → n < 10 → Answered (read-refusal orElse room) ranked k limit gs w (answers.Refused n) b b
+    read-refused n f ne h = refused-as n (read-refusal orElse room) (rw (← f) (first-stands n room ne)) ne h
+
+    pub not-refused : read-refusal ≡ 0 → (r : MapAnswer) (b′ : List ℕ) → Answered room ranked k limit gs w r b b′ → Answered (read-refusal orElse room) ranked k limit gs w r b b′
+    not-refused f r b′ a = rw f a
 
 -- ---- from the ranking of a catalogue
 

@@ -5,10 +5,12 @@ use mathlib.Core.List.{List, [], _∷_, map}
 use Prim.Native.Nat.{ℕ, zero, suc, _+_, _-_, _≤_}
 use lib.ListN.{length, take}
 use lib.Dec.{eqb, leb, ltb}
+use Rattle.lists.specs.Keep.{every}
+use Rattle.bases.specs.Base.{isBase}
 use Rattle.catalogue.specs.Refusal.{unless, _orElse_}
 use Rattle.catalogue.specs.Catalogue.{Catalogue, Target, properSequence, mapped}
 use Rattle.seeds.specs.Seeds.{placed}
-use Rattle.postings.specs.Index.{mappedSequences, rankedSequences, indexRefusal, Indexed, SeedLength}
+use Rattle.postings.specs.Index.{mappedSequences, rankedSequences, indexRefusal, Lent, Indexed, SeedLength}
 use Rattle.places.specs.Place.{Place, groups}
 use Rattle.candidates.specs.declared.rarest.SeedChoice.{SeedChoice}
 use Rattle.candidates.specs.declared.cursor.Candidate.{Candidate}
@@ -120,6 +122,13 @@ pub record Concluded (limit bound : ℕ) (w : MappingWork) (r : MapAnswer) (buff
       answerOf r ≡ cond (ltb bound (w .seen)) (cond (ltb (entryCount buffer) limit) (refusedBy 10) (mappedAs 2 0 (workOf w))) (mappedAs (stateOf (w .seen)) (w .seen) (workOf w))
   pub entries : buffer′ ≡ cond (ltb bound (w .seen)) (cleared buffer) buffer
 
+-- what mapping many reads is lent: sequences of capitals by rank, and columns that are their index
+pub record Mappable (q : ℕ) (bases ends ranked ks rs os : List ℕ) : Type 0 where
+  pub lent : Lent bases ends ranked
+  pub capitals : every (λ (s : List ℕ). every isBase s) (rankedSequences bases ends ranked) ≡ true
+  pub seed : SeedLength q
+  pub indexed : Indexed q (rankedSequences bases ends ranked) ks rs os
+
 -- what a search by the index is lent: a search at every start could be made, and the columns are the index of the sequences
 pub record IndexSearchable (q : ℕ) (bases ends ranked ks rs os read : List ℕ) : Type 0 where
   pub searchable : Searchable bases ends ranked read
@@ -155,6 +164,11 @@ mapAnswer q c ks rs os read limit entries =
 -- the supplied place of each rank
 abbrev pub suppliedPlaces : Catalogue → List ℕ
 suppliedPlaces c = map (λ (t : Target). t .place) (mapped c)
+
+-- what `map` leaves in the entries
+abbrev pub mapEntries : ℕ → Catalogue → List ℕ → List ℕ → List ℕ → List ℕ → ℕ → List ℕ → List ℕ
+mapEntries q c ks rs os read limit buffer =
+    entriesAfter (mapRefusal q c ks rs os read limit (entryCount buffer)) (entriesOf (suppliedPlaces c) (length read) (listed limit (groups (mappedSequences c) read))) buffer
 
 abbrev pub MapsTo : ℕ → Catalogue → List ℕ → List ℕ → List ℕ → List ℕ → ℕ → MapAnswer → List ℕ → List ℕ → Type 0
 MapsTo q c ks rs os read limit r buffer buffer′ =

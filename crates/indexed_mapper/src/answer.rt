@@ -44,3 +44,17 @@ pub fn state_of(groups: usize) -> ReadState
     }
     ReadState::Multiple
 }
+
+// The number of a state.
+pub fn state_number(state: ReadState) -> u64
+    ensures { λ r. ⌜ r ≡ stateNumber state ⌝ }
+{
+    match state {
+        ReadState::NotRequested => 0,
+        ReadState::Ineligible => 1,
+        ReadState::Indeterminate => 2,
+        ReadState::Unmapped => 3,
+        ReadState::Single => 4,
+        ReadState::Multiple => 5,
+    }
+}

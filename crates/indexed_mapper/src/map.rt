@@ -10,7 +10,7 @@ ghost use Rattle.postings.specs.Index.{rankedSequences, indexOf, columnsOf, Len
 ghost use Rattle.places.specs.Place.{groups};
 ghost use Rattle.scan.specs.Entries.{entryCount};
 ghost use Rattle.indexed_mapper.specs.Work.{work};
-ghost use Rattle.indexed_mapper.specs.Answer.{readRefusal, roomRefusal, Answered, MapsTo};
+ghost use Rattle.indexed_mapper.specs.Answer.{readRefusal, roomRefusal, Answered, Mappable, MapsTo};
 use crate::answer::MapAnswer;
 use crate::search::search;
 use catalogue::bounds::proper_sequence;
@@ -37,7 +37,41 @@ pub fn check_read(read: &[u8], limit: u64) -> u64
     0
 }
 
-// Tests the index, the read and the limit, and searches: refusals 6 to 10, or the state and groups of the read.
+// Tests a read and a limit, and searches: refusals 7 to 10, or the state and groups of the read.
+pub fn map_read(
+    entries: &mut [u64],
+    bases: &[u8],
+    ends: &[usize],
+    ranked: &[usize],
+    keys: &[u64],
+    ranks: &[u64],
+    positions: &[u64],
+    q: usize,
+    read: &[u8],
+    limit: u64,
+) -> MapAnswer
+    requires { ⌜ Mappable q (now bases) (now ends) (now ranked) (now keys) (now ranks) (now positions) ⌝ }
+    ensures { λ r. ⌜ Answered (readRefusal (now (read .entry)) limit orElse roomRefusal (entryCount (now (entries .entry))) limit (length (groups (rankedSequences (now (bases .entry)) (now (ends .entry)) (now (ranked .entry))) (now (read .entry))))) (now (ranked .entry)) (length (now (read .entry))) limit (groups (rankedSequences (now (bases .entry)) (now (ends .entry)) (now (ranked .entry))) (now (read .entry))) (work q (rankedSequences (now (bases .entry)) (now (ends .entry)) (now (ranked .entry))) (now (read .entry)) limit) r (now (entries .entry)) (now (entries .exit)) ⌝ }
+{
+    let refusal = check_read(read, limit);
+    if refusal != 0 {
+        return MapAnswer::Refused(refusal);
+    }
+    search(
+        entries,
+        bases,
+        ends,
+        ranked,
+        keys,
+        ranks,
+        positions,
+        q,
+        read,
+        limit,
+    )
+}
+
+// Tests the index, and maps the read: refusals 6 to 10, or the state and groups of the read.
 fn map_ranked(
     entries: &mut [u64],
     bases: &[u8],
@@ -56,11 +90,7 @@ fn map_ranked(
     if !is_index(keys, ranks, positions, bases, ends, ranked, q) {
         return MapAnswer::Refused(6);
     }
-    let refusal = check_read(read, limit);
-    if refusal != 0 {
-        return MapAnswer::Refused(refusal);
-    }
-    search(
+    map_read(
         entries,
         bases,
         ends,

@@ -1,4 +1,4 @@
--- Binary search in keys that do not fall, and the postings of a key.
+-- Search in keys that do not fall, and the postings of a key.
 -- Assumes nothing.
 use mathlib.Core.Path.{_≡_, sym, ap, _∙_}
 use mathlib.Core.Logic.{_⊎_, inl, inr}
@@ -16,7 +16,7 @@ use Rattle.lists.proofs.Triple.{test-before}
 use Rattle.columns.specs.Posting.{Posting, triple, earlier}
 use Rattle.columns.proofs.Rows.{none}
 use Rattle.seeds.specs.Seeds.{keysOf}
-use Rattle.postings.specs.Index.{hits, indexOf, Rising, BoundAt, RangeOf}
+use Rattle.postings.specs.Index.{hits, indexOf, Rising, BoundAt, BelowTo, RangeOf}
 use Rattle.postings.proofs.Indexing.{index-ascending}
 
 -- the bound's place is between low and high
@@ -26,9 +26,14 @@ pub record Between (ks : List ℕ) (bound low high : ℕ) : Type 0 where
   pub below : (i : ℕ) → i < low → getD ks i 0 < bound
   pub above : (i : ℕ) → high ≤ i → i < length ks → bound ≤ getD ks i 0
 
+-- and so is the place to look at next
+pub record Probing (ks : List ℕ) (bound low high mid : ℕ) : Type 0 where
+  pub between : Between ks bound low high
+  pub within : low < high → (low ≤ mid) × (mid < high)
+
 module _ (ks : List ℕ) (bound : ℕ) where
-  pub between-all : Between ks bound 0 (length ks)
-  between-all = record { ordered = omega arith; inside = omega arith; below = λ i h. absurd (omega arith); above = λ i h k. absurd (omega arith) }
+  pub between-from : (from : ℕ) → BelowTo ks bound from → Between ks bound from (length ks)
+  between-from from b = record { ordered = b .inside; inside = omega arith; below = b .below; above = λ i h k. absurd (omega arith) }
 
   module _ (low high : ℕ) (b : Between ks bound low high) where
     pub between-met : high ≤ low → BoundAt ks bound low
@@ -50,6 +55,23 @@ module _ (ks : List ℕ) (bound : ℕ) where
           higher i (inl m) l k = absurd (omega arith)
           higher i (inr (inl m)) l k = omega (arith, ap (λ n. getD ks n 0) m)
           higher i (inr (inr m)) l k = omega (arith, rising mid i m k)
+
+-- keys below a bound are below the next number
+pub below-next : (ks : List ℕ) (key start : ℕ) → BoundAt ks key start → BelowTo ks (key + 1) start
+below-next ks key start s = record { inside = s .inside; below = λ i h. let b = s .below i h in omega arith }
+
+-- the first key is not above the last
+pub rising-ends : (ks : List ℕ) → Rising ks → 0 < length ks → (first last : ℕ) → first ≡ getD ks 0 0 → last ≡ getD ks (length ks - 1) 0 → first ≤ last
+rising-ends ks rising some first last a b = rw (a, b) (go (compare 0 (length ks - 1)))
+  where
+    go : (0 < length ks - 1) ⊎ ((0 ≡ length ks - 1) ⊎ (length ks - 1 < 0)) → getD ks 0 0 ≤ getD ks (length ks - 1) 0
+    go (inl h) = rising 0 (length ks - 1) h (omega arith)
+    go (inr (inl h)) = rw (← h) (omega arith)
+    go (inr (inr h)) = absurd (omega arith)
+
+-- without keys there is no range
+pub range-none : (ks : List ℕ) (key : ℕ) → length ks ≡ 0 → RangeOf ks key 0 0
+range-none ks key e = record { ordered = omega arith; inside = omega arith; before = λ i h. absurd (omega arith); among = λ i h k. absurd (omega arith); after = λ i h k. absurd (omega arith) }
 
 -- the range of a key: from its own bound to the next number's
 module _ (ks : List ℕ) (key start : ℕ) (s : BoundAt ks key start) where

@@ -109,6 +109,11 @@ pub record Tells (r : Bool) (holds : Type 0) : Type 0 where
 abbrev pub Rising : List ℕ → Type 0
 Rising ks = (i j : ℕ) → i < j → j < length ks → getD ks i 0 ≤ getD ks j 0
 
+-- the first n keys are below a bound
+pub record BelowTo (ks : List ℕ) (bound n : ℕ) : Type 0 where
+  pub inside : n ≤ length ks
+  pub below : (i : ℕ) → i < n → getD ks i 0 < bound
+
 -- where a bound stands in keys that do not fall
 pub record BoundAt (ks : List ℕ) (bound place : ℕ) : Type 0 where
   pub inside : place ≤ length ks

@@ -1,9 +1,21 @@
 // The placement entries: four numbers for each group.
 ghost use mathlib.Core.Path.{_≡_};
+ghost use mathlib.Core.List.{_∷_, []};
 ghost use Prim.Native.Nat.{_+_, _*_, _≤_};
 ghost use lib.ListN.{length};
 ghost use Rattle.seeds.specs.Seeds.{placed};
 ghost use Rattle.scan.specs.Entries.{entryOf, cleared};
+
+// Writes four numbers from a place on.
+pub fn write_four(buffer: &mut [u64], at: usize, a: u64, b: u64, c: u64, d: u64)
+    requires { ⌜ at + 4 ≤ length (now buffer) ⌝ }
+    ensures { λ _. ⌜ now (buffer .exit) ≡ placed at (a ∷ b ∷ c ∷ d ∷ []) (now (buffer .entry)) ⌝ }
+{
+    buffer[at] = a;
+    buffer[at + 1] = b;
+    buffer[at + 2] = c;
+    buffer[at + 3] = d;
+}
 
 // Writes entry k.
 pub fn write_entry(
@@ -17,11 +29,14 @@ pub fn write_entry(
     requires { ⌜ 4 * k + 4 ≤ length (now entries) ⌝ }
     ensures { λ _. ⌜ now (entries .exit) ≡ placed (4 * k) (entryOf target start end strand) (now (entries .entry)) ⌝ }
 {
-    let at = 4 * k;
-    entries[at] = target as u64;
-    entries[at + 1] = start as u64;
-    entries[at + 2] = end as u64;
-    entries[at + 3] = strand;
+    write_four(
+        entries,
+        4 * k,
+        target as u64,
+        start as u64,
+        end as u64,
+        strand,
+    );
 }
 
 // Sets every entry to zero. Numbers behind the last whole entry stay.

@@ -1,22 +1,21 @@
--- `catalogue::bounds::is_base` meets its contract, by one computed test over all bytes.
+-- `catalogue::bounds::is_base` meets its contract, by the first letter that the byte equals.
 -- Assumes nothing.
-use mathlib.Core.Path.{ap, _∙_}
-use mathlib.Core.Bool.{not}
-use lib.Dec.{eqb}
-use Rattle.bases.specs.Base.{mark}
-use Rattle.catalogue.proofs.Checks.{small-letter, by-code}
-use borrow.Author.Needs.{needs}
+use native.Mathlib.Omega.{arith}
+use Rattle.catalogue.proofs.Checks.{is-A, is-C, is-G, or-T}
 use Rattle.catalogue.proofs.bounds.is_base.Statement.{statement}
 use Rattle.catalogue.proofs.bounds.is_base.Tie as tie
 
 returns : tie.Need-returns
-returns c = let a = c .before .args in small-letter (a .b) (c .before .fits .b .fits) (c .if1 .taken)
-
-code-requires : tie.Need-code-requires
-code-requires c κs = search needs
+returns c = is-A _ (omega (arith, c .if1 .taken))
 
 returns-2 : tie.Need-returns-2
-returns-2 c = let a = c .before .before .args in ap (λ n. not (eqb n mark)) (c .code .ensures) ∙ by-code (a .b) (c .before .before .fits .b .fits) (c .before .if1 .left)
+returns-2 c = is-C _ (c .before .if1 .left) (omega (arith, c .if2 .taken))
+
+returns-3 : tie.Need-returns-3
+returns-3 c = is-G _ (c .before .before .if1 .left) (c .before .if2 .left) (omega (arith, c .if3 .taken))
+
+returns-4 : tie.Need-returns-4
+returns-4 c = or-T _ (c .before .before .if1 .left) (c .before .if2 .left) (c .if3 .left)
 
 pub is-base-spec : {M : Type 1} → statement M
-is-base-spec = tie.close (tie.spec returns code-requires returns-2)
+is-base-spec = tie.close (tie.spec returns returns-2 returns-3 returns-4)

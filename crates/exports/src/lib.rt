@@ -1,0 +1,229 @@
+// The calls of the library for programs in C or Rust: numbers and slices only, and no premise. A slice passes as a pointer
+// and a length. Each call returns the number of its refusal, 0 for none, and writes its answer as numbers at the front of
+// `answer`; where that is too short the call returns 26 and writes nothing at all.
+ghost use mathlib.Core.Path.{_≡_};
+ghost use Prim.Native.Nat.{_≤_};
+ghost use lib.ListN.{length};
+ghost use Rattle.catalogue.specs.Catalogue.{lentCatalogue};
+ghost use Rattle.seeds.specs.Seeds.{placed};
+ghost use Rattle.postings.specs.Index.{indexRefusal};
+ghost use Rattle.postings.specs.Answers.{planAnswer, builtRefusal, builtCount};
+ghost use Rattle.indexed_mapper.specs.Answer.{answerOf};
+ghost use Rattle.many_reads.specs.Reads.{rowOf, MapsReads};
+ghost use Rattle.exports.specs.Exports.{planNumbers, buildNumbers, ExportsPlan, ExportsBuild, ExportsMap};
+use indexed_mapper::answer::MapAnswer;
+use indexed_mapper::map::map;
+use many_reads::map_reads;
+use many_reads::write_row;
+use postings::plan::Built;
+use postings::plan::IndexPlan;
+use postings::plan::build;
+use postings::plan::check_index;
+use postings::plan::plan;
+
+// Writes the answer of a plan, and returns its refusal.
+fn put_plan(answer: &mut [u64], planned: IndexPlan) -> u64
+    requires { ⌜ 3 ≤ length (now answer) ⌝ }
+    ensures { λ r. ⌜ (r ≡ planAnswer planned .0) × (now (answer .exit) ≡ placed 0 (planNumbers (planAnswer planned)) (now (answer .entry))) ⌝ }
+{
+    match planned {
+        IndexPlan::Refused(n) => {
+            answer[0] = n;
+            answer[1] = 0;
+            answer[2] = 0;
+            n
+        }
+        IndexPlan::Planned(counts) => {
+            answer[0] = 0;
+            answer[1] = counts.targets as u64;
+            answer[2] = counts.postings as u64;
+            0
+        }
+    }
+}
+
+// Writes the answer of a build, and returns its refusal.
+fn put_built(answer: &mut [u64], built: Built) -> u64
+    requires { ⌜ 2 ≤ length (now answer) ⌝ }
+    ensures { λ r. ⌜ (r ≡ builtRefusal built) × (now (answer .exit) ≡ placed 0 (buildNumbers (builtRefusal built) (builtCount built)) (now (answer .entry))) ⌝ }
+{
+    match built {
+        Built::Refused(n) => {
+            answer[0] = n;
+            answer[1] = 0;
+            n
+        }
+        Built::Built(n) => {
+            answer[0] = 0;
+            answer[1] = n as u64;
+            0
+        }
+    }
+}
+
+// Writes the answer of `map`, and returns its refusal.
+fn put_answer(answer: &mut [u64], mapped: MapAnswer) -> u64
+    requires { ⌜ 8 ≤ length (now answer) ⌝ }
+    ensures { λ r. ⌜ (r ≡ answerOf mapped .refusal) × (now (answer .exit) ≡ placed 0 (rowOf (answerOf mapped)) (now (answer .entry))) ⌝ }
+{
+    write_row(answer, 0, mapped);
+    answer[0]
+}
+
+// `postings::plan::plan`. The answer: refusal, mapped targets, postings.
+#[no_mangle]
+pub extern "C" fn jekaumeo_plan(
+    answer: &mut [u64],
+    identifiers: &[u8],
+    identifier_ends: &[usize],
+    bases: &[u8],
+    base_ends: &[usize],
+    marks: &[u8],
+    q: usize,
+) -> u64
+    ensures { λ r. ⌜ ExportsPlan q (lentCatalogue (now (identifiers .entry)) (now («identifier_ends» .entry)) (now (bases .entry)) (now («base_ends» .entry)) (now (marks .entry))) r (now (answer .entry)) (now (answer .exit)) ⌝ }
+{
+    if answer.len() < 3 {
+        return 26;
+    }
+    let planned = plan(identifiers, identifier_ends, bases, base_ends, marks, q);
+    put_plan(answer, planned)
+}
+
+// `postings::plan::build`. The answer: refusal, postings.
+#[no_mangle]
+pub extern "C" fn jekaumeo_build(
+    answer: &mut [u64],
+    keys: &mut [u64],
+    ranks: &mut [u64],
+    positions: &mut [u64],
+    identifiers: &[u8],
+    identifier_ends: &[usize],
+    bases: &[u8],
+    base_ends: &[usize],
+    marks: &[u8],
+    q: usize,
+) -> u64
+    ensures { λ r. ⌜ ExportsBuild q (lentCatalogue (now (identifiers .entry)) (now («identifier_ends» .entry)) (now (bases .entry)) (now («base_ends» .entry)) (now (marks .entry))) r (now (answer .entry)) (now (keys .entry)) (now (ranks .entry)) (now (positions .entry)) (now (answer .exit)) (now (keys .exit)) (now (ranks .exit)) (now (positions .exit)) ⌝ }
+{
+    if answer.len() < 2 {
+        return 26;
+    }
+    let built = build(
+        keys,
+        ranks,
+        positions,
+        identifiers,
+        identifier_ends,
+        bases,
+        base_ends,
+        marks,
+        q,
+    );
+    put_built(answer, built)
+}
+
+// `postings::plan::check_index`.
+#[no_mangle]
+pub extern "C" fn jekaumeo_check_index(
+    keys: &[u64],
+    ranks: &[u64],
+    positions: &[u64],
+    identifiers: &[u8],
+    identifier_ends: &[usize],
+    bases: &[u8],
+    base_ends: &[usize],
+    marks: &[u8],
+    q: usize,
+) -> u64
+    ensures { λ r. ⌜ r ≡ indexRefusal q (lentCatalogue (now (identifiers .entry)) (now («identifier_ends» .entry)) (now (bases .entry)) (now («base_ends» .entry)) (now (marks .entry))) (now (keys .entry)) (now (ranks .entry)) (now (positions .entry)) ⌝ }
+{
+    check_index(
+        keys,
+        ranks,
+        positions,
+        identifiers,
+        identifier_ends,
+        bases,
+        base_ends,
+        marks,
+        q,
+    )
+}
+
+// `indexed_mapper::map::map`. The answer: refusal, state, groups, lookups, hits, examined, comparisons, seen.
+#[no_mangle]
+pub extern "C" fn jekaumeo_map(
+    answer: &mut [u64],
+    entries: &mut [u64],
+    keys: &[u64],
+    ranks: &[u64],
+    positions: &[u64],
+    identifiers: &[u8],
+    identifier_ends: &[usize],
+    bases: &[u8],
+    base_ends: &[usize],
+    marks: &[u8],
+    q: usize,
+    read: &[u8],
+    limit: u64,
+) -> u64
+    ensures { λ r. ⌜ ExportsMap q (lentCatalogue (now (identifiers .entry)) (now («identifier_ends» .entry)) (now (bases .entry)) (now («base_ends» .entry)) (now (marks .entry))) (now (keys .entry)) (now (ranks .entry)) (now (positions .entry)) (now (read .entry)) limit r (now (answer .entry)) (now (entries .entry)) (now (answer .exit)) (now (entries .exit)) ⌝ }
+{
+    if answer.len() < 8 {
+        return 26;
+    }
+    let mapped = map(
+        entries,
+        keys,
+        ranks,
+        positions,
+        identifiers,
+        identifier_ends,
+        bases,
+        base_ends,
+        marks,
+        q,
+        read,
+        limit,
+    );
+    put_answer(answer, mapped)
+}
+
+// `many_reads::map_reads`: a row of eight numbers for each read, laid out as the answer of `jekaumeo_map`.
+#[no_mangle]
+pub extern "C" fn jekaumeo_map_reads(
+    rows: &mut [u64],
+    entries: &mut [u64],
+    keys: &[u64],
+    ranks: &[u64],
+    positions: &[u64],
+    identifiers: &[u8],
+    identifier_ends: &[usize],
+    bases: &[u8],
+    base_ends: &[usize],
+    marks: &[u8],
+    q: usize,
+    reads: &[u8],
+    read_ends: &[usize],
+    limit: u64,
+) -> u64
+    ensures { λ r. ⌜ MapsReads q (lentCatalogue (now (identifiers .entry)) (now («identifier_ends» .entry)) (now (bases .entry)) (now («base_ends» .entry)) (now (marks .entry))) (now (keys .entry)) (now (ranks .entry)) (now (positions .entry)) limit (now (reads .entry)) (now («read_ends» .entry)) r (now (rows .entry)) (now (entries .entry)) (now (rows .exit)) (now (entries .exit)) ⌝ }
+{
+    map_reads(
+        rows,
+        entries,
+        keys,
+        ranks,
+        positions,
+        identifiers,
+        identifier_ends,
+        bases,
+        base_ends,
+        marks,
+        q,
+        reads,
+        read_ends,
+        limit,
+    )
+}

@@ -1,0 +1,31 @@
+-- `indexed_mapper::map::map_read` meets its contract: the refusal of the read or the limit, or the search.
+-- Assumes nothing.
+use mathlib.Core.Path.{sym, _∙_}
+use native.Mathlib.Omega.{arith}
+use Rattle.indexed_mapper.proofs.Mapping.{read-below, searchable, read-refused, not-refused}
+use borrow.Author.Needs.{needs}
+use Rattle.indexed_mapper.proofs.map.map_read.Statement.{statement}
+use Rattle.indexed_mapper.proofs.map.map_read.Tie as tie
+
+check-read-requires : tie.Need-check-read-requires
+check-read-requires c κs = search needs
+
+returns : tie.Need-returns
+returns c =
+    let a = c .before .before .before .before .before .before .before .before .before .before .args in
+    read-refused _ _ _ _ _ _ _ _ _ (c .before .check-read .ensures) (c .if1 .taken) (omega (arith, c .before .check-read .ensures, read-below (a .read .now) (a .limit)))
+
+search-requires : tie.Need-search-requires
+search-requires c κs =
+    let a = c .before .before .before .before .before .before .before .before .before .before .before .args in
+    searchable (a .q) (a .bases .now) (a .ends .now) (a .ranked .now) _ _ _ _ (a .limit) (c .before .before .before .before .before .before .before .before .before .before .before .pre) (sym (c .before .before .check-read .ensures) ∙ c .before .if1 .left)
+
+same-length : tie.Need-same-length
+same-length c = search needs
+
+returns-2 : tie.Need-returns-2
+returns-2 c = not-refused _ _ _ _ _ _ _ _ (sym (c .before .before .before .before .before .check-read .ensures) ∙ c .before .before .before .before .if1 .left) _ _ (c .before .before .search .ensures)
+
+pub map-read-spec : {M : Type 1} → statement M
+map-read-spec =
+    tie.close (tie.spec check-read-requires returns search-requires same-length returns-2)

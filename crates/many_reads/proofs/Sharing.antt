@@ -1,0 +1,251 @@
+-- Rows and shares: windows of a buffer with a placed part, and reads mapped one after the other, each into its share.
+-- Assumes nothing.
+use mathlib.Core.Path.{_≡_, refl, sym, ap, ap₂, _∙_}
+use mathlib.Core.List.{List, [], _∷_, _++_, append-assoc}
+use Prim.Native.Nat.{ℕ, zero, suc, _+_, _-_, _*_, _<_, _≤_}
+use native.Mathlib.Omega.{arith}
+use native.Mathlib.Nat.{mul-suc, mul-le-mul-left}
+use lib.ListN.{length, getD, take, drop, replicate, length-append, length-replicate}
+use lib.Seq.{length-take-le, take-at, drop-at, drop-drop, take-take}
+use lib.Dec.{ltb, eqb}
+use borrow.Author.Tests.{ltb-true, ltb-false}
+use borrow.Rule.Slice.PartMut.{putMid}
+use Rattle.lists.specs.Cut.{window, cut}
+use Rattle.lists.proofs.Cases.{by-test}
+use Rattle.lists.proofs.Cut.{length-window, length-cut}
+use Rattle.lists.proofs.Places.{drop-take}
+use Rattle.catalogue.specs.Refusal.{_orElse_}
+use Rattle.seeds.specs.Seeds.{placed}
+use Rattle.seeds.proofs.Storing.{length-placed, placed-placed}
+use Rattle.places.specs.Place.{Place, groups}
+use Rattle.scan.specs.Entries.{entriesOf, entryCount, cleared}
+use Rattle.scan.proofs.Going.{length-entries}
+use Rattle.indexed_mapper.specs.Work.{work}
+use Rattle.indexed_mapper.specs.Answer.{Answer, Answered, answerOf, entriesAfter, listed, readRefusal, roomRefusal}
+use Rattle.indexed_mapper.specs.declared.answer.MapAnswer.{MapAnswer}
+use Rattle.many_reads.specs.Reads.{rowOf, ReadsMapped, ShareMapped, RankedMapped, readAnswer, readEntries}
+
+-- ---- products
+
+-- the next share ends within all of them
+share-within : (width i n : ℕ) → i < n → width * i + width ≤ width * n
+share-within width i n h = rw (← mul-suc width i) (mul-le-mul-left width h)
+
+-- ---- windows of a buffer with a placed part
+
+-- a window is told by what stands before its end
+window-before : (b b′ : List ℕ) (start n k : ℕ) → start + n ≤ k → take k b ≡ take k b′ → window b start n ≡ window b′ start n
+window-before b b′ start n k h e = part b ∙ ap (drop start) (first b ∙ ap (take (start + n)) e ∙ sym (first b′)) ∙ sym (part b′)
+  where
+    part : (l : List ℕ) → window l start n ≡ drop start (take (start + n) l)
+    part l = let m : n ≡ start + n - start = omega arith in ap (λ k. take k (drop start l)) m ∙ sym (drop-take start (start + n) l)
+
+    first : (l : List ℕ) → take (start + n) l ≡ take (start + n) (take k l)
+    first l = sym (take-take (start + n) k l h)
+
+module _ (at : ℕ) (xs b : List ℕ) (h : at + length xs ≤ length b) where
+  before : length (take at b) ≡ at
+  before = length-take-le at b (omega arith)
+
+  placed-front : take at (placed at xs b) ≡ take at b
+  placed-front = ap (take at) (append-assoc (take at b) xs (drop (at + length xs) b)) ∙ take-at (take at b) (xs ++ drop (at + length xs) b) at before
+
+  -- the part itself
+  placed-there : window (placed at xs b) at (length xs) ≡ xs
+  placed-there =
+      ap (take (length xs)) (ap (drop at) (append-assoc (take at b) xs (drop (at + length xs) b)) ∙ drop-at (take at b) (xs ++ drop (at + length xs) b) at before)
+      ∙ take-at xs (drop (at + length xs) b) (length xs) refl
+
+  -- a window before the part
+  placed-before : (start n : ℕ) → start + n ≤ at → window (placed at xs b) start n ≡ window b start n
+  placed-before start n k = window-before (placed at xs b) b start n at k placed-front
+
+  -- what lies behind the part
+  placed-behind : drop (at + length xs) (placed at xs b) ≡ drop (at + length xs) b
+  placed-behind = drop-at (take at b ++ xs) (drop (at + length xs) b) (at + length xs) (omega (arith, length-append (take at b) xs, before))
+
+-- ---- rows
+
+-- eight numbers, written four by four
+pub eight-put : (at : ℕ) (b b′ b″ : List ℕ) (n1 n2 n3 n4 n5 n6 n7 n8 : ℕ) → at + 8 ≤ length b → b′ ≡ placed at (n1 ∷ n2 ∷ n3 ∷ n4 ∷ []) b → b″ ≡ placed (at + 4) (n5 ∷ n6 ∷ n7 ∷ n8 ∷ []) b′ → b″ ≡ placed at (n1 ∷ n2 ∷ n3 ∷ n4 ∷ n5 ∷ n6 ∷ n7 ∷ n8 ∷ []) b
+eight-put at b b′ b″ n1 n2 n3 n4 n5 n6 n7 n8 h e f = f ∙ ap (placed (at + 4) (n5 ∷ n6 ∷ n7 ∷ n8 ∷ [])) e ∙ placed-placed at (n1 ∷ n2 ∷ n3 ∷ n4 ∷ []) b (n5 ∷ n6 ∷ n7 ∷ n8 ∷ []) (omega arith)
+
+-- ---- the length of a share
+
+-- a part put back is a placed part
+part-back : (from width : ℕ) (b g : List ℕ) → from + width ≤ length b → length g ≡ width → putMid from width b g ≡ placed from g b
+part-back from width b g h l =
+    let e : drop width (drop from b) ≡ drop (from + length g) b = drop-drop width from b ∙ ap (λ k. drop (from + k) b) (sym l) in
+    ap (λ r. take from b ++ (g ++ r)) e ∙ sym (append-assoc (take from b) g (drop (from + length g) b))
+
+module _ (b : List ℕ) where
+  length-cleared : length (cleared b) ≡ length b
+  length-cleared = length-placed 0 (replicate (4 * entryCount b) 0) b (omega (arith, length-replicate {A = ℕ} (4 * entryCount b) 0))
+
+  after-length : (n : ℕ) (xs : List ℕ) → (n ≡ 0 → length xs ≤ length b) → length (entriesAfter n xs b) ≡ length b
+  after-length zero xs f = length-placed 0 xs (cleared b) (omega (arith, f refl, length-cleared)) ∙ length-cleared
+  after-length (suc n) xs f = by-test (eqb (suc n) 10) (λ e. rw e length-cleared) (λ e. rw e refl)
+
+-- where there is no refusal the listed groups have room
+listed-room : (entries limit : ℕ) (gs : List Place) → roomRefusal entries limit (length gs) ≡ 0 → length (listed limit gs) ≤ entries
+listed-room entries limit gs z =
+    by-test (ltb limit (length gs))
+    (λ e. rw e (omega arith))
+    (λ e. rw e (by-test (ltb entries (length gs))
+    (λ f. by-test (ltb entries limit) (λ g. absurd (omega (arith, rw (f, g) at z))) (λ g. omega (arith, ltb-false limit (length gs) e, ltb-false entries limit g)))
+    (λ f. ltb-false entries (length gs) f)))
+
+second-none : (n m : ℕ) → (n orElse m) ≡ 0 → m ≡ 0
+second-none zero m z = z
+second-none (suc n) m z = absurd (omega arith)
+
+-- a mapped read keeps the length of its share
+read-entries-length : (ss : List (List ℕ)) (ranked read : List ℕ) (limit : ℕ) (b : List ℕ) → length (readEntries ss ranked read limit b) ≡ length b
+read-entries-length ss ranked read limit b =
+    let gs = groups ss read in
+    after-length b (readRefusal read limit orElse roomRefusal (entryCount b) limit (length gs)) (entriesOf ranked (length read) (listed limit gs))
+    (λ z. let room = listed-room (entryCount b) limit gs (second-none (readRefusal read limit) (roomRefusal (entryCount b) limit (length gs)) z) in
+    omega (arith, room, length-entries ranked (length read) (listed limit gs)))
+
+-- a lent part of k numbers is back with the answer for a read
+pub part-mapped : (q : ℕ) (ss : List (List ℕ)) (ranked read : List ℕ) (limit from width : ℕ) (r : MapAnswer) (b : List ℕ) → from + width ≤ length b → (k : ℕ) → k ≡ width → (g : List ℕ)
+    → Answered (readRefusal read limit orElse roomRefusal (entryCount (window b from k)) limit (length (groups ss read))) ranked (length read) limit (groups ss read) (work q ss read limit) r (window b from k) g
+    → ShareMapped q ss ranked read limit from width r b (putMid from k b g)
+part-mapped q ss ranked read limit from width r b h k e g a =
+    let t : Answered (readRefusal read limit orElse roomRefusal (entryCount (window b from width)) limit (length (groups ss read))) ranked (length read) limit (groups ss read) (work q ss read limit) r (window b from width) g = rw e at a in
+    let l : length g ≡ width = ap length (t .entries) ∙ read-entries-length ss ranked read limit (window b from width) ∙ length-window b from width h in
+    record {
+      answer = t .answer;
+      share = ap (λ n. putMid from n b g) e ∙ part-back from width b g h l ∙ ap (λ x. placed from x b) (t .entries);
+    }
+
+-- ---- reads mapped one after the other
+
+-- the first i reads have their rows and shares, and nothing behind their shares is touched
+pub record Shares (answer : List ℕ → Answer) (after : List ℕ → List ℕ → List ℕ) (reads : List (List ℕ)) (width : ℕ) (rows₀ entries₀ : List ℕ) (i : ℕ) (rows entries : List ℕ) : Type 0 where
+  pub upto : i ≤ length reads
+  pub row : (j : ℕ) → j < i → window rows (8 * j) 8 ≡ rowOf (answer (getD reads j []))
+  pub share : (j : ℕ) → j < i → window entries (width * j) width ≡ after (getD reads j []) (window entries₀ (width * j) width)
+  pub rest : drop (width * i) entries ≡ drop (width * i) entries₀
+  pub rows-long : length rows ≡ length rows₀
+  pub entries-long : length entries ≡ length entries₀
+
+module _ (answer : List ℕ → Answer) (after : List ℕ → List ℕ → List ℕ) (reads : List (List ℕ)) (width : ℕ) (rows₀ entries₀ : List ℕ) where
+  shares-none : Shares answer after reads width rows₀ entries₀ 0 rows₀ entries₀
+  shares-none = record { upto = omega arith; row = λ j h. absurd (omega arith); share = λ j h. absurd (omega arith); rest = refl; rows-long = refl; entries-long = refl }
+
+  module _ (i : ℕ) (rows entries : List ℕ) (s : Shares answer after reads width rows₀ entries₀ i rows entries) where
+    -- the next share is as at the start
+    shares-untouched : window entries (width * i) width ≡ window entries₀ (width * i) width
+    shares-untouched = ap (take width) (s .rest)
+
+    shares-all : length reads ≤ i → ReadsMapped answer after reads width rows entries₀ entries
+    shares-all h =
+        let e : i ≡ length reads = omega (arith, s .upto) in
+        record { row = λ j k. s .row j (omega arith); share = λ j k. s .share j (omega arith); rest = rw e at (s .rest) }
+
+    module _ (here : i < length reads) (room : 8 * length reads ≤ length rows₀) (wide : width * length reads ≤ length entries₀) where
+      row-room : 8 * i + 8 ≤ length rows
+      row-room = omega (arith, s .rows-long)
+
+      share-room : width * i + width ≤ length entries
+      share-room = omega (arith, share-within width i (length reads) here, s .entries-long)
+
+      module _ (r : Answer) (part : List ℕ) (answered : r ≡ answer (getD reads i [])) (written : part ≡ after (getD reads i []) (window entries₀ (width * i) width)) (full : length part ≡ width) where
+        abbrev rows′ : List ℕ
+        rows′ = placed (8 * i) (rowOf r) rows
+
+        abbrev entries′ : List ℕ
+        entries′ = placed (width * i) part entries
+
+        inside : width * i + length part ≤ length entries
+        inside = omega (arith, share-room)
+
+        row-next : (j : ℕ) → j < i + 1 → window rows′ (8 * j) 8 ≡ rowOf (answer (getD reads j []))
+        row-next j h =
+            by-test (ltb j i)
+            (λ e. let k = ltb-true j i e in placed-before (8 * i) (rowOf r) rows row-room (8 * j) 8 (omega arith) ∙ s .row j k)
+            (λ e. let k : j ≡ i = omega (arith, ltb-false j i e) in rw k (placed-there (8 * i) (rowOf r) rows row-room ∙ ap rowOf answered))
+
+        share-next : (j : ℕ) → j < i + 1 → window entries′ (width * j) width ≡ after (getD reads j []) (window entries₀ (width * j) width)
+        share-next j h =
+            by-test (ltb j i)
+            (λ e. let k = ltb-true j i e in placed-before (width * i) part entries inside (width * j) width (share-within width j i k) ∙ s .share j k)
+            (λ e. let k : j ≡ i = omega (arith, ltb-false j i e) in rw k (ap (λ n. window entries′ (width * i) n) (sym full) ∙ placed-there (width * i) part entries inside ∙ written))
+
+        behind : drop (width * (i + 1)) entries′ ≡ drop (width * (i + 1)) entries₀
+        behind =
+            let m : width * (i + 1) ≡ width * i + length part = ap (λ n. width * n) one ∙ mul-suc width i ∙ ap (λ n. width * i + n) (sym full) in
+            rw m (placed-behind (width * i) part entries inside ∙ sym (drop-drop (length part) (width * i) entries) ∙ ap (drop (length part)) (s .rest) ∙ drop-drop (length part) (width * i) entries₀)
+          where
+            one : i + 1 ≡ suc i
+            one = omega arith
+
+        shares-more : Shares answer after reads width rows₀ entries₀ (i + 1) rows′ entries′
+        shares-more =
+            record {
+              upto = omega arith;
+              row = row-next;
+              share = share-next;
+              rest = behind;
+              rows-long = length-placed (8 * i) (rowOf r) rows row-room ∙ s .rows-long;
+              entries-long = length-placed (width * i) part entries inside ∙ s .entries-long;
+            }
+
+-- the same for ranked sequences
+abbrev pub RankedShares : ℕ → List (List ℕ) → List ℕ → ℕ → List ℕ → List ℕ → ℕ → List ℕ → List ℕ → ℕ → List ℕ → List ℕ → Type 0
+RankedShares q ss ranked limit bytes ends share rows₀ entries₀ i rows entries =
+    Shares (λ read. readAnswer q ss read limit share) (λ read part. readEntries ss ranked read limit part) (cut ends bytes) (4 * share) rows₀ entries₀ i rows entries
+
+module _ (q : ℕ) (ss : List (List ℕ)) (ranked : List ℕ) (limit : ℕ) (bytes ends : List ℕ) (share : ℕ) (rows₀ entries₀ : List ℕ) where
+  abbrev one-answer : List ℕ → Answer
+  one-answer read = readAnswer q ss read limit share
+
+  abbrev one-after : List ℕ → List ℕ → List ℕ
+  one-after read part = readEntries ss ranked read limit part
+
+  count : length (cut ends bytes) ≡ length ends
+  count = length-cut 0 ends bytes
+
+  pub shares-start : RankedShares q ss ranked limit bytes ends share rows₀ entries₀ 0 rows₀ entries₀
+  shares-start = shares-none one-answer one-after (cut ends bytes) (4 * share) rows₀ entries₀
+
+  module _ (i : ℕ) (rows entries : List ℕ) (s : RankedShares q ss ranked limit bytes ends share rows₀ entries₀ i rows entries) where
+    pub shares-end : length ends ≤ i → RankedMapped q ss ranked limit bytes ends share rows entries₀ entries
+    shares-end h = shares-all one-answer one-after (cut ends bytes) (4 * share) rows₀ entries₀ i rows entries s (omega (arith, count))
+
+    module _ (here : i < length ends) (room : length rows₀ ≡ 8 * length ends) (wide : 4 * share * length ends ≤ length entries₀) where
+      here′ : i < length (cut ends bytes)
+      here′ = rw count here
+
+      room′ : 8 * length (cut ends bytes) ≤ length rows₀
+      room′ = omega (arith, count)
+
+      wide′ : 4 * share * length (cut ends bytes) ≤ length entries₀
+      wide′ = rw count wide
+
+      pub shares-row : 8 * i + 8 ≤ length rows
+      shares-row = row-room one-answer one-after (cut ends bytes) (4 * share) rows₀ entries₀ i rows entries s here′ room′ wide′
+
+      pub shares-share : 4 * share * i + 4 * share ≤ length entries
+      shares-share = share-room one-answer one-after (cut ends bytes) (4 * share) rows₀ entries₀ i rows entries s here′ room′ wide′
+
+      module _ (read : List ℕ) (r : MapAnswer) (rows′ entries′ : List ℕ) (taken : read ≡ getD (cut ends bytes) i []) (mapped : ShareMapped q ss ranked read limit (4 * share * i) (4 * share) r entries entries′) (put : rows′ ≡ placed (8 * i) (rowOf (answerOf r)) rows) where
+        long : length (window entries (4 * share * i) (4 * share)) ≡ 4 * share
+        long = length-window entries (4 * share * i) (4 * share) shares-share
+
+        answered : answerOf r ≡ one-answer (getD (cut ends bytes) i [])
+        answered =
+            let n : entryCount (window entries (4 * share * i) (4 * share)) ≡ share = omega (arith, long) in
+            mapped .answer ∙ ap₂ (λ l k. readAnswer q ss l limit k) taken n
+
+        written : one-after read (window entries (4 * share * i) (4 * share)) ≡ one-after (getD (cut ends bytes) i []) (window entries₀ (4 * share * i) (4 * share))
+        written = ap₂ (λ l b. readEntries ss ranked l limit b) taken (shares-untouched one-answer one-after (cut ends bytes) (4 * share) rows₀ entries₀ i rows entries s)
+
+        full : length (one-after read (window entries (4 * share * i) (4 * share))) ≡ 4 * share
+        full = read-entries-length ss ranked read limit (window entries (4 * share * i) (4 * share)) ∙ long
+
+        pub shares-next : RankedShares q ss ranked limit bytes ends share rows₀ entries₀ (i + 1) rows′ entries′
+        shares-next =
+            rw (put, mapped .share)
+            (shares-more one-answer one-after (cut ends bytes) (4 * share) rows₀ entries₀ i rows entries s here′ room′ wide′ (answerOf r) (one-after read (window entries (4 * share * i) (4 * share))) answered written full)

@@ -1,0 +1,28 @@
+# Proves and builds both sides, or says what is missing. `compare` and `bench` read this file; $here is its folder.
+
+missing() {
+    echo "oracle: $*" >&2
+    exit 2
+}
+
+root=$(dirname "$here")
+cd "$root"
+export VERITASM_SRC="${VERITASM_SRC:-../shared/docs/src}"
+
+command -v rt >/dev/null || missing "rt, the Rattle toolchain, is not on the path"
+command -v cargo >/dev/null || missing "cargo is not on the path"
+[ "$(uname -m)" = x86_64 ] || missing "the static library is for x86-64, and this machine is $(uname -m)"
+for module in audit indexed_mapper model; do
+    [ -f "$VERITASM_SRC/src/$module.rs" ] ||
+        missing "no $VERITASM_SRC/src/$module.rs; set VERITASM_SRC to a copy of veritasm (oracle/README.md)"
+done
+
+mkdir -p "$here/target"
+echo "oracle: proving and building the library"
+rt staticlib exports >"$here/target/staticlib.log" 2>&1 || {
+    tail -n 20 "$here/target/staticlib.log" | cut -c 1-400 >&2
+    missing "the library is not built; see oracle/target/staticlib.log"
+}
+echo "oracle: building the Rust from $VERITASM_SRC"
+cargo build --quiet --release --offline --manifest-path "$here/Cargo.toml" --target-dir "$here/target" ||
+    missing "the Rust is not built"
