@@ -53,7 +53,7 @@ add-read : tie.Need-add-read
 add-read c = search needs
 
 number-requires-6 : tie.Need-number-requires-6
-number-requires-6 c κs = search needs
+number-requires-6 c κs = omega arith
 
 add-end : tie.Need-add-end
 add-end c = search needs
