@@ -1,15 +1,15 @@
 -- Laws of single bytes, each by one computed test over all 256; above them a number is no letter, and stays itself.
 -- Assumes nothing.
 use mathlib.Core.Path.{_≡_, refl, sym, ap, _∙_}
-use mathlib.Core.Bool.{Bool, true, false, cond, not, _&&_, _||_, Bool·beq}
+use mathlib.Core.Bool.{Bool, true, false, cond, not, _||_, Bool·beq}
 use mathlib.Core.List.{List, [], _∷_}
-use Prim.Native.Nat.{ℕ, _+_, _-_, _*_, _<_, _≤_}
+use Prim.Native.Nat.{ℕ, _+_, _-_, _*_, _%_, _<_, _≤_}
 use native.Mathlib.Omega.{arith}
 use lib.Dec.{ltb, leb, eqb}
 use lib.ListN.{getD}
-use borrow.Author.Tests.{eqb-true, eq-eqb, ne-eqb, ltb-true, ltb-false, leb-true, le-leb, lt-leb}
+use borrow.Author.Tests.{eqb-true, eqb-false, eq-eqb, ne-eqb, ltb-true, ltb-false, leb-true, le-leb, lt-leb}
 use Rattle.lists.specs.Keep.{every}
-use Rattle.lists.proofs.Cases.{by-test, and-true, beq-true, eq-beq}
+use Rattle.lists.proofs.Cases.{by-test, clash, and-true, beq-true, eq-beq}
 use Rattle.lists.proofs.Below.{passesBelow, passes-at, tabulate, tabulate-at}
 use Rattle.bases.specs.Base.{beside, codes, complements, codeOf, complementOf, upperOf, isBase, mark}
 
@@ -99,6 +99,11 @@ letter-code b =
     (everywhere (λ b. Bool·beq (isBase (upperOf b)) (not (eqb (codeOf b) mark))) refl
     (λ b h. eq-beq _ _ (ap isBase (upper-above b h) ∙ base-above b h ∙ sym (ap (λ n. not (eqb n mark)) (code-above b h)))) b)
 
+-- a capital is such a letter
+pub letter-capital : (b : ℕ) → isBase b ≡ true → isBase (upperOf b) ≡ true
+unfolding isBase upperOf
+letter-capital b t = rw t at (everywhere (λ b. not (isBase b) || isBase (upperOf b)) refl (λ b h. rw (base-above b h)) b)
+
 -- and its complement is one exactly if it is
 pub letter-complement : (b : ℕ) → isBase (upperOf (complementOf b)) ≡ isBase (upperOf b)
 unfolding isBase upperOf complementOf
@@ -112,3 +117,39 @@ pub code-le : (b : ℕ) → codeOf b ≤ mark
 unfolding codeOf
 code-le b =
     leb-true (codeOf b) mark (everywhere (λ b. leb (codeOf b) mark) refl (λ b h. le-leb (codeOf b) mark (omega (arith, code-above b h))) b)
+
+-- ---- letters by their last five bits
+
+-- the last five bits of a letter, by its code
+bitsOf : ℕ → ℕ
+bitsOf n = beside ((0, 1) ∷ (1, 3) ∷ (2, 7) ∷ (3, 20) ∷ []) 0 n
+
+bits-code : (b : ℕ) → isBase (upperOf b) ≡ true → b % 32 ≡ bitsOf (codeOf b)
+unfolding isBase upperOf codeOf bitsOf
+bits-code b t =
+    eqb-true (b % 32) (bitsOf (codeOf b))
+    (rw t at (everywhere (λ b. not (isBase (upperOf b)) || eqb (b % 32) (bitsOf (codeOf b))) refl (λ b h. rw (upper-above b h, base-above b h)) b))
+
+-- a letter's code is less than the mark
+pub letter-low : (b : ℕ) → isBase (upperOf b) ≡ true → codeOf b < 4
+letter-low b t = by-test (eqb (codeOf b) mark) (λ e. clash t (letter-code b ∙ ap not e)) (λ e. omega (arith, code-le b, eqb-false (codeOf b) mark e))
+
+-- a test of two codes that passes at each pair of them
+codes-pass : (test : ℕ → ℕ → Bool) → passesBelow (λ m. passesBelow (test m) 4) 4 ≡ true → (m n : ℕ) → m < 4 → n < 4 → test m n ≡ true
+codes-pass test t m n hm hn = passes-at (test m) 4 (passes-at (λ m. passesBelow (test m) 4) 4 t m hm) n hn
+
+module _ (x y : ℕ) (hx : isBase (upperOf x) ≡ true) (hy : isBase (upperOf y) ≡ true) where
+  -- letters with the same bits have one code
+  pub bits-same : eqb (x % 32) (y % 32) ≡ eqb (codeOf x) (codeOf y)
+  unfolding bitsOf
+  bits-same =
+      ap (λ n. eqb n (y % 32)) (bits-code x hx) ∙ ap (eqb (bitsOf (codeOf x))) (bits-code y hy)
+      ∙ beq-true _ _ (codes-pass (λ m n. Bool·beq (eqb (bitsOf m) (bitsOf n)) (eqb m n)) refl (codeOf x) (codeOf y) (letter-low x hx) (letter-low y hy))
+
+  -- and those of complements have the sum 21 or 10
+  pub bits-paired : (eqb (x % 32 + y % 32) 21 || eqb (x % 32 + y % 32) 10) ≡ eqb (codeOf x) (codeOf (complementOf y))
+  unfolding bitsOf
+  bits-paired =
+      ap (λ n. eqb n 21 || eqb n 10) (ap (λ n. n + y % 32) (bits-code x hx) ∙ ap (λ n. bitsOf (codeOf x) + n) (bits-code y hy))
+      ∙ beq-true _ _ (codes-pass (λ m n. Bool·beq (eqb (bitsOf m + bitsOf n) 21 || eqb (bitsOf m + bitsOf n) 10) (eqb m (cond (eqb n mark) mark (3 - n)))) refl (codeOf x) (codeOf y) (letter-low x hx) (letter-low y hy))
+      ∙ ap (eqb (codeOf x)) (sym (code-complement y))

@@ -1,20 +1,23 @@
 -- A read turned round: twice is the read itself; its bases by place, their codes and case; its verdict.
 -- Assumes nothing.
 use mathlib.Core.Path.{_≡_, refl, sym, ap, ap₂, _∙_}
-use mathlib.Core.Bool.{Bool, true, false, cond, _&&_}
+use mathlib.Core.Bool.{Bool, true, false, cond, _&&_, _||_}
 use mathlib.Core.Logic.{_⊎_, inl, inr}
 use mathlib.Core.List.{List, [], _∷_, map, reverse, reverse-reverse}
-use Prim.Native.Nat.{ℕ, zero, suc, _-_, _<_, _≤_}
+use Prim.Native.Nat.{ℕ, zero, suc, _+_, _-_, _%_, _<_, _≤_}
 use native.Mathlib.Omega.{arith}
 use lib.ListN.{length, getD, length-map, length-reverse, List·getD-map, List·getD-eq-default}
 use lib.Dec.{eqb, leb, ltb}
+use borrow.Author.Tests.{eq-eqb, ne-eqb}
 use Rattle.lists.specs.Keep.{every}
 use Rattle.lists.proofs.Cases.{clash}
+use Rattle.lists.proofs.Every.{every-at}
+use Rattle.lists.proofs.Places.{getD-map}
 use Rattle.lists.proofs.Reverse.{getD-reverse, map-reverse, every-reverse}
 use Rattle.bases.specs.Base.{codeOf, complementOf, upperOf, isBase, mark}
 use Rattle.bases.specs.Read.{Qualities, absent, given, Read, reverseComplement, reversed, turned, oriented}
-use Rattle.bases.specs.Eligibility.{Verdict, refused, ineligible, eligible, _then_, emptyTest, lengthTest, qualityTest, qualitiesTest, givenTest, basesTest, eligibility}
-use Rattle.bases.proofs.Bytes.{complement-twice, code-complement, upper-complement, case-kept, letter-complement}
+use Rattle.bases.specs.Eligibility.{Verdict, refused, ineligible, eligible, _then_, emptyTest, lengthTest, qualityTest, qualitiesTest, basesTest, eligibility}
+use Rattle.bases.proofs.Bytes.{bits-same, bits-paired, complement-twice, code-complement, upper-complement, case-kept, letter-complement}
 
 -- ---- bases
 
@@ -78,6 +81,25 @@ on-plus s bs i e = rw e
 pub on-minus : (s : ℕ) (bs : List ℕ) (i : ℕ) → (s ≡ 0 → ⊥) → i < length bs → codeOf (complementOf (getD bs (length bs - 1 - i) 0)) ≡ codeOf (getD (oriented s bs) i 0)
 on-minus zero bs i ne h = absurd (ne refl)
 on-minus (suc s) bs i ne h = ap codeOf (ap (λ n. complementOf (getD bs n 0)) (omega arith) ∙ sym (turned-at bs i h))
+
+-- ---- a letter against base i on a strand
+
+letters-at : (bs : List ℕ) → every isBase (map upperOf bs) ≡ true → (i : ℕ) → i < length bs → isBase (upperOf (getD bs i 0)) ≡ true
+letters-at bs t i h = ap isBase (sym (getD-map upperOf 0 0 bs i h)) ∙ every-at isBase 0 (map upperOf bs) t i (rw length-map h)
+
+module _ (x s : ℕ) (bs : List ℕ) (i : ℕ) (h : i < length bs) (letter : isBase (upperOf x) ≡ true) (letters : every isBase (map upperOf bs) ≡ true) where
+  pub on-plus-agrees : s ≡ 0 → eqb (x % 32) (getD bs i 0 % 32) ≡ eqb (codeOf x) (codeOf (getD (oriented s bs) i 0))
+  on-plus-agrees e = bits-same x (getD bs i 0) letter (letters-at bs letters i h) ∙ ap (eqb (codeOf x)) (on-plus s bs i e)
+
+  pub on-minus-agrees : (s ≡ 0 → ⊥) → (eqb (x % 32 + getD bs (length bs - 1 - i) 0 % 32) 21 || eqb (x % 32 + getD bs (length bs - 1 - i) 0 % 32) 10) ≡ eqb (codeOf x) (codeOf (getD (oriented s bs) i 0))
+  on-minus-agrees ne = bits-paired x (getD bs (length bs - 1 - i) 0) letter (letters-at bs letters (length bs - 1 - i) (omega arith)) ∙ ap (eqb (codeOf x)) (on-minus s bs i ne h)
+
+-- the first of two tests where it passes, the second where it does not
+pub first-sum : (n : ℕ) → n ≡ 21 → eqb n 21 ≡ (eqb n 21 || eqb n 10)
+first-sum n e = rw (eq-eqb n 21 e)
+
+pub second-sum : (n : ℕ) → (n ≡ 21 → ⊥) → eqb n 10 ≡ (eqb n 21 || eqb n 10)
+second-sum n ne = rw (ne-eqb n 21 ne)
 
 -- ---- eligibility
 

@@ -1,7 +1,9 @@
 -- The four bases as ASCII bytes: letters, codes, complements (REFERENCE.md, "Bases").
+use mathlib.Core.Path.{_≡_}
 use mathlib.Core.Bool.{Bool, cond, _&&_, _||_}
 use mathlib.Core.List.{List, [], _∷_}
-use Prim.Native.Nat.{ℕ, _-_}
+use Prim.Native.Nat.{ℕ, _+_, _-_, _*_, _<_}
+use lib.ListN.{getD}
 use lib.Dec.{leb, eqb}
 
 abbrev pub A : ℕ
@@ -51,6 +53,10 @@ complements = (A, T) ∷ (T, A) ∷ (C, G) ∷ (G, C) ∷ (a, t) ∷ (t, a) ∷ 
 -- any other byte stays itself
 unfoldable pub complementOf : ℕ → ℕ
 complementOf b = beside complements b b
+
+-- a table that holds of each byte its code times 256, plus its complement
+pub record Table (table : List ℕ) : Type 0 where
+  pub holds : (b : ℕ) → b < 256 → getD table b 0 ≡ codeOf b * 256 + complementOf b
 
 -- the byte in upper case, as ASCII has it
 unfoldable pub upperOf : ℕ → ℕ

@@ -1,7 +1,6 @@
 // Code and complement of every byte, from one table.
 ghost use mathlib.Core.Path.{_≡_};
-ghost use Prim.Native.Nat.{_+_, _*_};
-ghost use Rattle.bases.specs.Base.{codeOf, complementOf};
+ghost use Rattle.bases.specs.Base.{codeOf, complementOf, Table};
 
 // The code of a byte that is no base.
 pub const MARK: u64 = 4;
@@ -266,23 +265,41 @@ const BASES: [u16; 256] = [
     1279,
 ];
 
-// What the table holds of a byte.
-fn entry(b: u8) -> u16
-    ensures { λ r. ⌜ r ≡ codeOf b * 256 + complementOf b ⌝ }
+// The table. A constant is copied wherever it is read, so a caller that reads many bytes takes it once.
+pub fn table() -> [u16; 256]
+    ensures { λ r. ⌜ Table r ⌝ }
 {
-    BASES[b as usize]
+    BASES
+}
+
+// The code of a base, by the table.
+pub fn code_in(table: &[u16; 256], b: u8) -> u64
+    requires { ⌜ Table (now table) ⌝ }
+    ensures { λ r. ⌜ r ≡ codeOf b ⌝ }
+{
+    (table[b as usize] / 256) as u64
+}
+
+// The complement of a base, by the table.
+pub fn complement_in(table: &[u16; 256], b: u8) -> u8
+    requires { ⌜ Table (now table) ⌝ }
+    ensures { λ r. ⌜ r ≡ complementOf b ⌝ }
+{
+    (table[b as usize] % 256) as u8
 }
 
 // The code of a base: 0 to 3 for A, C, G, T in either case, and the mark for any other byte.
 pub fn code(b: u8) -> u64
     ensures { λ r. ⌜ r ≡ codeOf b ⌝ }
 {
-    (entry(b) / 256) as u64
+    let table = table();
+    code_in(&table, b)
 }
 
 // The complement of a base in its case; any other byte is its own.
 pub fn complement(b: u8) -> u8
     ensures { λ r. ⌜ r ≡ complementOf b ⌝ }
 {
-    (entry(b) % 256) as u8
+    let table = table();
+    complement_in(&table, b)
 }

@@ -6,7 +6,8 @@ ghost use Rattle.bases.specs.Base.{isBase, upperOf};
 ghost use Rattle.bases.specs.Read.{lent, readOf};
 ghost use Rattle.bases.specs.Eligibility.{verdictOf, qualityTest, qualitiesTest, givenTest, eligibility};
 use crate::base::MARK;
-use crate::base::code;
+use crate::base::code_in;
+use crate::base::table;
 
 // What is decided of a read: one of three refusals, or whether it is eligible.
 pub enum Eligibility {
@@ -52,9 +53,10 @@ fn judge_qualities(qualities: &[u8], floor: u8, offset: u8) -> Eligibility
 fn all_bases(bases: &[u8]) -> bool
     ensures { λ r. ⌜ r ≡ every isBase (map upperOf (now (bases .entry))) ⌝ }
 {
+    let table = table();
     let mut i = 0;
     while i < bases.len() {
-        if code(bases[i]) == MARK {
+        if code_in(&table, bases[i]) == MARK {
             return false;
         }
         i += 1;

@@ -23,7 +23,8 @@ use Rattle.scan.specs.Entries.{entriesOf, entryCount, cleared}
 use Rattle.scan.specs.Searched.{Searched}
 use Rattle.scan.proofs.Going.{length-entries}
 use Rattle.indexed_mapper.specs.Work.{Work, work, scanWork}
-use Rattle.indexed_mapper.specs.Answer.{stateNumber, workOf, answerOf, refusedBy, mappedAs, stateOf, roomRefusal, Answered, Found, Concluded}
+use Rattle.indexed_mapper.specs.Answer.{stateNumber, workOf, answerOf, refusedBy, mappedAs, stateOf, roomRefusal, Answered}
+use Rattle.indexed_mapper.specs.Steps.{Found, Concluded}
 use Rattle.indexed_mapper.specs.declared.answer.MappingWork.{MappingWork}
 use Rattle.indexed_mapper.specs.declared.answer.MapAnswer.{MapAnswer}
 use Rattle.indexed_mapper.specs.declared.answer.MapAnswer.the-variants as answers

@@ -31,7 +31,8 @@ use Rattle.scan.specs.Searched.{looked, Searched}
 use Rattle.scan.specs.declared.visit.Tally.{Tally}
 use Rattle.scan.proofs.Going.{searched-whole, searched-seen}
 use Rattle.indexed_mapper.specs.Work.{Work, onStrand, passed, work}
-use Rattle.indexed_mapper.specs.Answer.{workOf, Found, IndexWork}
+use Rattle.indexed_mapper.specs.Answer.{workOf}
+use Rattle.indexed_mapper.specs.Steps.{Found, IndexWork}
 use Rattle.indexed_mapper.specs.declared.answer.MappingWork.{MappingWork}
 use Rattle.indexed_mapper.proofs.Seeking.{chosen-offset, chosen-lookups, chosen-hits, in-index}
 use Rattle.indexed_mapper.proofs.Siding.{side-examined}

@@ -16,7 +16,8 @@ use Rattle.lists.proofs.Cut.{length-cut}
 use Rattle.lists.proofs.Every.{every-at, ∈-every}
 use Rattle.lists.proofs.Member.{map-∈}
 use Rattle.lists.proofs.Same.{same-true}
-use Rattle.bases.specs.Base.{A, C, G, T, isBase, upperOf}
+use Rattle.bases.specs.Base.{A, C, G, T, isBase}
+use Rattle.bases.proofs.Bytes.{letter-capital}
 use Rattle.catalogue.specs.Refusal.{unless, _orElse_}
 use Rattle.catalogue.specs.Name.{distinctNames}
 use Rattle.catalogue.specs.Catalogue.{Catalogue, Target, Valid, names, sequences, mapped, inBounds, properSequence, catalogueRefusal}
@@ -31,7 +32,8 @@ use Rattle.postings.proofs.Planning.{plan-right, no-refusal, ranked-mapped, tes
 use Rattle.places.specs.Place.{Place, folded, groups}
 use Rattle.scan.specs.Entries.{entryCount}
 use Rattle.indexed_mapper.specs.Work.{Work, work}
-use Rattle.indexed_mapper.specs.Answer.{roomRefusal, maxRead, maxLimit, limitRight, readRefusal, mapRefusal, suppliedPlaces, Answered, IndexSearchable, Mappable, MapsTo}
+use Rattle.indexed_mapper.specs.Answer.{roomRefusal, maxRead, maxLimit, limitRight, readRefusal, mapRefusal, suppliedPlaces, Answered, MapsTo}
+use Rattle.indexed_mapper.specs.Steps.{IndexSearchable, Mappable}
 use Rattle.indexed_mapper.specs.declared.answer.MapAnswer.{MapAnswer}
 use Rattle.indexed_mapper.specs.declared.answer.MapAnswer.the-variants as answers
 
@@ -87,14 +89,9 @@ at-capitals test a c g t b h =
     (λ f. by-test (eqb b G) (λ k. rw (eqb-true b G k) g)
     (λ k. by-test (eqb b T) (λ l. rw (eqb-true b T l) t) (λ l. clash (rw (e, f, k, l) at h) refl))))
 
--- a capital in upper case
-base-folded : (b : ℕ) → isBase b ≡ true → isBase (upperOf b) ≡ true
-unfolding isBase upperOf
-base-folded = at-capitals (λ b. isBase (upperOf b)) refl refl refl refl
-
 letters-folded : (bs : List ℕ) → every isBase bs ≡ true → every isBase (folded bs) ≡ true
 letters-folded [] t = refl
-letters-folded (b ∷ bs) t = let u = and-true (isBase b) (every isBase bs) t in rw (base-folded b (u .0)) (letters-folded bs (u .1))
+letters-folded (b ∷ bs) t = let u = and-true (isBase b) (every isBase bs) t in rw (letter-capital b (u .0)) (letters-folded bs (u .1))
 
 -- ---- the search of ranked sequences
 

@@ -19,7 +19,7 @@ use Rattle.candidates.specs.Search.{offsetCount, Rarest}
 use Rattle.candidates.specs.Cursor.{CursorIn}
 use Rattle.candidates.specs.declared.rarest.SeedChoice.{SeedChoice}
 use Rattle.candidates.specs.declared.sides.Sides.{Sides}
-use Rattle.indexed_mapper.specs.Answer.{IndexSearchable, Spans}
+use Rattle.indexed_mapper.specs.Steps.{IndexSearchable, Spans}
 use Rattle.indexed_mapper.proofs.Seeking.{cursor-in, in-index, index-few}
 use Rattle.indexed_mapper.proofs.Merging.{Chosen, Both}
 

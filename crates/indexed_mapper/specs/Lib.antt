@@ -1,4 +1,5 @@
 pub mod Work
 pub mod Answer
+pub mod Steps
 pub mod Board
 pub mod Laws

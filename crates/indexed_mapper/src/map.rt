@@ -10,7 +10,8 @@ ghost use Rattle.postings.specs.Index.{rankedSequences, indexOf, columnsOf, Len
 ghost use Rattle.places.specs.Place.{groups};
 ghost use Rattle.scan.specs.Entries.{entryCount};
 ghost use Rattle.indexed_mapper.specs.Work.{work};
-ghost use Rattle.indexed_mapper.specs.Answer.{readRefusal, roomRefusal, Answered, Mappable, MapsTo};
+ghost use Rattle.indexed_mapper.specs.Answer.{readRefusal, roomRefusal, Answered, MapsTo};
+ghost use Rattle.indexed_mapper.specs.Steps.{Mappable};
 use crate::answer::MapAnswer;
 use crate::search::search;
 use catalogue::bounds::proper_sequence;

@@ -1,9 +1,11 @@
 -- The test of two lists says that they are equal.
 -- Assumes nothing.
 use mathlib.Core.Path.{_≡_, refl, sym, ap₂}
-use mathlib.Core.Bool.{true, false}
+use mathlib.Core.Bool.{Bool, true, false, _&&_}
 use mathlib.Core.List.{List, [], _∷_}
-use Prim.Native.Nat.{ℕ}
+use Prim.Native.Nat.{ℕ, zero, suc, _<_, _≤_}
+use native.Mathlib.Omega.{arith}
+use lib.ListN.{length, getD, take}
 use lib.Dec.{eqb}
 use borrow.Author.Tests.{eqb-true, eq-eqb}
 use Rattle.lists.specs.Same.{same}
@@ -26,3 +28,33 @@ true-same xs ys e = rw e (go ys)
 
 pub same-false : (xs ys : List ℕ) → (xs ≡ ys → ⊥) → same xs ys ≡ false
 same-false xs ys ne = by-test (same xs ys) (λ t. absurd (ne (same-true xs ys t))) (λ t. t)
+
+-- ---- lists compared from the front
+
+-- one number more
+pub same-next : (xs ys : List ℕ) (i : ℕ) → i < length xs → i < length ys → same (take (suc i) xs) (take (suc i) ys) ≡ (same (take i xs) (take i ys) && eqb (getD xs i 0) (getD ys i 0))
+same-next [] ys i hx hy = absurd (omega arith)
+same-next (x ∷ xs) [] i hx hy = absurd (omega arith)
+same-next (x ∷ xs) (y ∷ ys) zero hx hy = and-rest (eqb x y)
+  where
+    and-rest : (b : Bool) → (b && true) ≡ b
+    and-rest true = refl
+    and-rest false = refl
+same-next (x ∷ xs) (y ∷ ys) (suc i) hx hy = rw (same-next xs ys i (omega arith) (omega arith)) (joined (eqb x y) (same (take i xs) (take i ys)) (eqb (getD xs i 0) (getD ys i 0)))
+  where
+    joined : (b d e : Bool) → (b && (d && e)) ≡ ((b && d) && e)
+    joined true d e = refl
+    joined false d e = refl
+
+-- a difference among the first i is one among the first j
+pub differ-next : (xs ys : List ℕ) (i j : ℕ) → i ≤ j → same (take i xs) (take i ys) ≡ false → same (take j xs) (take j ys) ≡ false
+differ-next xs ys zero j h t = clash refl t
+differ-next xs ys (suc i) zero h t = absurd (omega arith)
+differ-next [] [] (suc i) (suc j) h t = t
+differ-next [] (y ∷ ys) (suc i) (suc j) h t = refl
+differ-next (x ∷ xs) [] (suc i) (suc j) h t = refl
+differ-next (x ∷ xs) (y ∷ ys) (suc i) (suc j) h t = go (eqb x y) t (differ-next xs ys i j (omega arith))
+  where
+    go : (b : Bool) → (b && same (take i xs) (take i ys)) ≡ false → (same (take i xs) (take i ys) ≡ false → same (take j xs) (take j ys) ≡ false) → (b && same (take j xs) (take j ys)) ≡ false
+    go true t ih = ih t
+    go false t ih = refl

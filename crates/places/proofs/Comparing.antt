@@ -2,27 +2,27 @@
 -- Assumes nothing.
 use mathlib.Core.Path.{_≡_, refl, sym, ap, _∙_}
 use mathlib.Core.Bool.{Bool, true, false, not, _&&_, _||_}
-use mathlib.Core.List.{List, [], _∷_, map}
+use mathlib.Core.List.{List, [], _∷_}
 use Prim.Native.Nat.{ℕ, zero, suc, _+_, _<_, _≤_}
 use native.Mathlib.Omega.{arith}
 use native.Mathlib.Numerals.{add-one}
-use lib.ListN.{length, getD, take, drop, length-map, drop-of-length-le}
-use lib.Seq.{drop-cons, getD-take, getD-drop}
+use lib.ListN.{length, getD, drop, length-map, length-drop}
+use lib.Seq.{take-all, getD-drop}
 use lib.Dec.{ltb, eqb}
 use borrow.Author.Tests.{eqb-true, eq-eqb, ne-eqb, ltb-true, ltb-false}
 use Rattle.lists.specs.Keep.{every}
 use Rattle.lists.specs.Same.{same}
 use Rattle.lists.specs.Cut.{window}
-use Rattle.lists.proofs.Cases.{by-test, clash}
-use Rattle.lists.proofs.Below.{passesBelow, passes-at}
+use Rattle.lists.proofs.Cases.{by-test, clash, same-test}
+use Rattle.lists.proofs.Below.{passes-at}
 use Rattle.lists.proofs.Every.{every-at}
 use Rattle.lists.proofs.Places.{getD-map}
-use Rattle.lists.proofs.Cut.{length-window}
+use Rattle.lists.proofs.Same.{same-next, differ-next}
 use Rattle.bases.specs.Base.{A, C, G, T, beside, isBase, codeOf, upperOf}
-use Rattle.bases.specs.Read.{oriented, reverseComplement}
-use Rattle.bases.proofs.Bytes.{code-upper}
+use Rattle.bases.specs.Read.{oriented}
+use Rattle.bases.proofs.Bytes.{code-upper, letter-capital}
 use Rattle.bases.proofs.Turning.{folded-turned, letters-turned, length-oriented}
-use Rattle.places.specs.Place.{folded}
+use Rattle.places.specs.Place.{folded, Laid, standsTo}
 
 -- ---- a capital by its code
 
@@ -46,6 +46,9 @@ capital-of b t = by-test (ltb b 256) (λ e. low (ltb-true b 256 e)) (λ e. clash
 same-code : (x y : ℕ) → isBase x ≡ true → isBase y ≡ true → codeOf x ≡ codeOf y → x ≡ y
 same-code x y hx hy e = capital-of x hx ∙ ap letterOf e ∙ sym (capital-of y hy)
 
+codes-decide : (x y : ℕ) → isBase x ≡ true → isBase y ≡ true → eqb x y ≡ eqb (codeOf x) (codeOf y)
+codes-decide x y hx hy = same-test (λ e. eq-eqb _ _ (ap codeOf (eqb-true x y e))) (λ e. eq-eqb x y (same-code x y hx hy (eqb-true _ _ e)))
+
 -- ---- a folded read on a strand
 
 pub oriented-folded : (s : ℕ) (read : List ℕ) → oriented s (folded read) ≡ folded (oriented s read)
@@ -56,65 +59,50 @@ oriented-letters : (s : ℕ) (read : List ℕ) → every isBase (folded read) �
 oriented-letters zero read t = t
 oriented-letters (suc s) read t = letters-turned read ∙ t
 
--- ---- the comparison from base i on
-
-pub record Comparing (s : List ℕ) (start : ℕ) (read : List ℕ) (strand i : ℕ) : Type 0 where
-  pub inside : i ≤ length read
-  pub rest : same (window s start (length read)) (oriented strand (folded read)) ≡ same (drop i (window s start (length read))) (drop i (oriented strand (folded read)))
+-- ---- the first bases of a read compared
 
 module _ (s : List ℕ) (start : ℕ) (read : List ℕ) (strand : ℕ) where
-  pub comparing-start : Comparing s start read strand 0
-  comparing-start = record { inside = omega arith; rest = refl }
+  pub compared-none : standsTo 0 s start read strand ≡ true
+  compared-none = refl
 
-  module _ (fits : start + length read ≤ length s) (capitals : every isBase s ≡ true) (letters : every isBase (folded read) ≡ true) where
-    w : List ℕ
-    w = window s start (length read)
+  pub compared-differ : (i j : ℕ) → i ≤ j → standsTo i s start read strand ≡ false → standsTo j s start read strand ≡ false
+  compared-differ i j h t = differ-next (drop start s) (oriented strand (folded read)) i j h t
 
-    o : List ℕ
-    o = oriented strand (folded read)
+  pub compared-all : standsTo (length read) s start read strand ≡ same (window s start (length read)) (oriented strand (folded read))
+  compared-all = ap (same (window s start (length read))) (take-all (length read) (oriented strand (folded read)) (omega (arith, length-oriented strand (folded read), length-map read upperOf)))
 
-    long-w : length w ≡ length read
-    unfolding w
-    long-w = length-window s start (length read) fits
+  -- base i as well
+  module _ (laid : Laid s start read) (i : ℕ) (h : i < length read) where
+    x : ℕ
+    x = getD s (start + i) 0
 
-    long-o : length o ≡ length read
-    unfolding o
-    long-o = length-oriented strand (folded read) ∙ length-map read upperOf
+    y : ℕ
+    y = getD (oriented strand read) i 0
 
-    pub comparing-end : (i : ℕ) → Comparing s start read strand i → length read ≤ i → true ≡ same (window s start (length read)) (oriented strand (folded read))
-    unfolding w o
-    comparing-end i c h = sym (c .rest ∙ rw (drop-of-length-le w {i = i} (omega (arith, long-w)), drop-of-length-le o {i = i} (omega (arith, long-o))))
+    inside-s : i < length (drop start s)
+    inside-s = omega (arith, length-drop start s, laid .fits)
 
-    module _ (i : ℕ) (c : Comparing s start read strand i) (h : i < length read) (x y : ℕ) (ex : x ≡ codeOf (getD s (start + i) 0)) (ey : y ≡ codeOf (getD (oriented strand read) i 0)) where
-      at-w : getD w i 0 ≡ getD s (start + i) 0
-      unfolding w
-      at-w = getD-take (length read) (drop start s) i 0 h ∙ getD-drop start s i 0
+    inside-o : i < length (oriented strand (folded read))
+    inside-o = omega (arith, length-oriented strand (folded read), length-map read upperOf)
 
-      at-o : getD o i 0 ≡ upperOf (getD (oriented strand read) i 0)
-      unfolding o
-      at-o = ap (λ l. getD l i 0) (oriented-folded strand read) ∙ getD-map upperOf 0 0 (oriented strand read) i (omega (arith, length-oriented strand read))
+    at-o : getD (oriented strand (folded read)) i 0 ≡ upperOf y
+    unfolding y
+    at-o = ap (λ l. getD l i 0) (oriented-folded strand read) ∙ getD-map upperOf 0 0 (oriented strand read) i (omega (arith, length-oriented strand read))
 
-      base-w : isBase (getD w i 0) ≡ true
-      base-w = ap isBase at-w ∙ every-at isBase 0 s capitals (start + i) (omega arith)
+    base-s : isBase x ≡ true
+    unfolding x
+    base-s = every-at isBase 0 s (laid .capitals) (start + i) (omega (arith, laid .fits))
 
-      base-o : isBase (getD o i 0) ≡ true
-      unfolding o
-      base-o = every-at isBase 0 (oriented strand (folded read)) (ap (every isBase) (oriented-folded strand read) ∙ oriented-letters strand read letters) i (omega (arith, long-o))
+    base-o : isBase (upperOf y) ≡ true
+    base-o = ap isBase (sym at-o) ∙ every-at isBase 0 (oriented strand (folded read)) (ap (every isBase) (oriented-folded strand read) ∙ oriented-letters strand read (laid .letters)) i inside-o
 
-      code-w : codeOf (getD w i 0) ≡ x
-      code-w = ap codeOf at-w ∙ sym ex
+    pub sequence-letter : isBase (upperOf (getD s (start + i) 0)) ≡ true
+    unfolding x
+    sequence-letter = letter-capital x base-s
 
-      code-o : codeOf (getD o i 0) ≡ y
-      code-o = ap codeOf at-o ∙ code-upper (getD (oriented strand read) i 0) ∙ sym ey
-
-      pub codes-differ : (x ≡ y → ⊥) → false ≡ same (window s start (length read)) (oriented strand (folded read))
-      unfolding w o
-      codes-differ ne = sym (c .rest ∙ rw (drop-cons w i 0 (omega (arith, long-w)), drop-cons o i 0 (omega (arith, long-o)), ne-eqb (getD w i 0) (getD o i 0) (λ e. ne (sym code-w ∙ ap codeOf e ∙ code-o))))
-
-      pub codes-agree : x ≡ y → Comparing s start read strand (i + 1)
-      unfolding w o
-      codes-agree e =
-          record {
-            inside = omega arith;
-            rest = c .rest ∙ rw (add-one, drop-cons w i 0 (omega (arith, long-w)), drop-cons o i 0 (omega (arith, long-o)), eq-eqb (getD w i 0) (getD o i 0) (same-code (getD w i 0) (getD o i 0) base-w base-o (code-w ∙ e ∙ sym code-o)));
-          }
+    pub compared-next : standsTo (i + 1) s start read strand ≡ (standsTo i s start read strand && eqb (codeOf (getD s (start + i) 0)) (codeOf (getD (oriented strand read) i 0)))
+    unfolding x y
+    compared-next =
+        ap (λ n. standsTo n s start read strand) (add-one i)
+        ∙ same-next (drop start s) (oriented strand (folded read)) i inside-s inside-o
+        ∙ ap (λ b. standsTo i s start read strand && b) (ap (λ n. eqb n (getD (oriented strand (folded read)) i 0)) (getD-drop start s i 0) ∙ ap (eqb x) at-o ∙ codes-decide x (upperOf y) base-s base-o ∙ ap (eqb (codeOf x)) (code-upper y))

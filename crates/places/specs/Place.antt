@@ -1,13 +1,14 @@
 -- Places of a read in sequences by rank, and where it matches (REFERENCE.md, "Places").
-use mathlib.Core.Bool.{Bool}
+use mathlib.Core.Path.{_≡_}
+use mathlib.Core.Bool.{Bool, true}
 use mathlib.Core.List.{List, [], _∷_, _++_, map}
 use Prim.Native.Nat.{ℕ, zero, suc, _+_, _-_, _≤_, _<_}
-use lib.ListN.{length, getD}
-use Rattle.lists.specs.Keep.{keep}
+use lib.ListN.{length, getD, take}
+use Rattle.lists.specs.Keep.{keep, every}
 use Rattle.lists.specs.Same.{same}
 use Rattle.lists.specs.Triple.{Triple, lexicographic}
 use Rattle.lists.specs.Cut.{window}
-use Rattle.bases.specs.Base.{upperOf}
+use Rattle.bases.specs.Base.{upperOf, isBase}
 use Rattle.bases.specs.Read.{oriented}
 use Rattle.seeds.specs.Seeds.{starts}
 
@@ -50,6 +51,16 @@ places n ss = placesFrom 0 n ss
 -- bases in upper case
 abbrev pub folded : List ℕ → List ℕ
 folded read = map upperOf read
+
+-- a read of letters in either case laid at a start of a sequence of capitals, within it
+pub record Laid (s : List ℕ) (start : ℕ) (read : List ℕ) : Type 0 where
+  pub fits : start + length read ≤ length s
+  pub capitals : every isBase s ≡ true
+  pub letters : every isBase (folded read) ≡ true
+
+-- the first i bases of a read, in upper case and as it lies on a strand, stand at a start of a sequence
+abbrev pub standsTo : ℕ → List ℕ → ℕ → List ℕ → ℕ → Bool
+standsTo i s start read strand = same (window s start i) (take i (oriented strand (folded read)))
 
 -- the read, in upper case and as it lies on the strand, stands base for base at the place
 unfoldable pub matches : List (List ℕ) → List ℕ → Place → Bool

@@ -1,30 +1,51 @@
 // A read compared with a target base for base, as it lies on a strand.
 ghost use mathlib.Core.Path.{_≡_};
 ghost use mathlib.Core.Bool.{true};
-ghost use Prim.Native.Nat.{_+_, _≤_};
+ghost use Prim.Native.Nat.{_<_, _≤_};
 ghost use lib.ListN.{length};
-ghost use Rattle.lists.specs.Keep.{every};
 ghost use Rattle.lists.specs.Same.{same};
 ghost use Rattle.lists.specs.Cut.{window};
-ghost use Rattle.bases.specs.Base.{isBase};
 ghost use Rattle.bases.specs.Read.{oriented};
-ghost use Rattle.places.specs.Place.{folded};
-use bases::base::code;
-use bases::strand::oriented_code;
+ghost use Rattle.places.specs.Place.{folded, Laid, standsTo};
+use bases::strand::oriented_agrees;
 
-// Whether a read stands at a start of a sequence. The codes are compared: the sequence has capitals, the read letters in
-// either case.
+// How many bases are compared at once: enough for a comparison of many bases by one instruction.
+const STRETCH: usize = 64;
+
+// Whether the bases up to an end agree where those before a stretch do. No base ends the comparison of a stretch, so that
+// all of them can be compared at once.
+fn stretch_agrees(
+    sequence: &[u8],
+    start: usize,
+    read: &[u8],
+    strand: u64,
+    from: usize,
+    end: usize,
+) -> bool
+    requires { ⌜ Laid (now sequence) start (now read) ⌝ }
+    requires { ⌜ (from ≤ end) × ((end ≤ length (now read)) × (standsTo from (now sequence) start (now read) strand ≡ true)) ⌝ }
+    ensures { λ r. ⌜ r ≡ standsTo end (now (sequence .entry)) start (now (read .entry)) strand ⌝ }
+{
+    let mut agree = true;
+    let mut i = from;
+    while i < end {
+        agree = agree & oriented_agrees(sequence[start + i], read, strand, i);
+        i += 1;
+    }
+    agree
+}
+
+// Whether a read stands at a start of a sequence, which has capitals; the read has letters in either case.
 pub fn stands_at(sequence: &[u8], start: usize, read: &[u8], strand: u64) -> bool
-    requires { ⌜ start + length (now read) ≤ length (now sequence) ⌝ }
-    requires { ⌜ (every isBase (now sequence) ≡ true) × (every isBase (folded (now read)) ≡ true) ⌝ }
+    requires { ⌜ Laid (now sequence) start (now read) ⌝ }
     ensures { λ r. ⌜ r ≡ same (window (now (sequence .entry)) start (length (now (read .entry)))) (oriented strand (folded (now (read .entry)))) ⌝ }
 {
     let mut i = 0;
-    while i < read.len() {
-        if code(sequence[start + i]) != oriented_code(read, strand, i) {
+    while STRETCH <= read.len() - i {
+        if !stretch_agrees(sequence, start, read, strand, i, i + STRETCH) {
             return false;
         }
-        i += 1;
+        i += STRETCH;
     }
-    true
+    stretch_agrees(sequence, start, read, strand, i, read.len())
 }

@@ -1,23 +1,21 @@
 -- The laws of a seed's key: one base more at its end, how large it can be, and the step to the next start.
 -- Assumes nothing.
-use mathlib.Core.Path.{_≡_, refl, sym, ap, _∙_}
-use mathlib.Core.Bool.{true, false, not}
+use mathlib.Core.Path.{_≡_, refl, ap}
+use mathlib.Core.Bool.{true}
 use mathlib.Core.List.{List, [], _∷_, _++_}
 use Prim.Native.Nat.{ℕ, zero, suc, _+_, _-_, _*_, _^_, _<_, _≤_}
 use native.Mathlib.Nat.{pow-suc, mul-assoc, mul-le-mul-right, pow-le-pow-right}
 use native.Mathlib.Numerals.{add-one, sub-one}
 use native.Mathlib.Omega.{arith}
-use lib.ListN.{length, getD, take, drop, length-append, length-drop}
+use lib.ListN.{length, getD, drop, length-append, length-drop}
 use lib.Seq.{take-suc, drop-cons, getD-drop}
-use lib.Dec.{eqb}
-use borrow.Author.Tests.{eqb-false}
 use Rattle.lists.specs.Keep.{every}
 use Rattle.lists.specs.Cut.{window}
-use Rattle.lists.proofs.Cases.{by-test, clash, and-true}
+use Rattle.lists.proofs.Cases.{and-true}
 use Rattle.lists.proofs.Cut.{length-window}
-use Rattle.bases.specs.Base.{codeOf, upperOf, isBase, mark}
+use Rattle.bases.specs.Base.{codeOf, upperOf, isBase}
 use Rattle.bases.specs.Read.{oriented}
-use Rattle.bases.proofs.Bytes.{code-le, letter-code}
+use Rattle.bases.proofs.Bytes.{code-le, letter-low}
 use Rattle.bases.proofs.Turning.{length-oriented}
 use Rattle.seeds.specs.Key.{keyOf, SeedIn}
 
@@ -34,19 +32,13 @@ unfolding keyOf
 key-loose [] = omega arith
 key-loose (x ∷ w) = omega (arith, key-loose w, mul-le-mul-right (4 ^ length w) (code-le x), pow-suc 4 (length w))
 
-letter-below : (b : ℕ) → isBase (upperOf b) ≡ true → codeOf b < 4
-letter-below b h = by-test (eqb (codeOf b) mark) (λ t. clash h (letter-code b ∙ ap not t)) (λ t. omega (arith, code-le b, differs t))
-  where
-    differs : eqb (codeOf b) mark ≡ false → codeOf b ≡ 4 → ⊥
-    differs t e = eqb-false (codeOf b) mark t e
-
 -- the key of q letters is below 4 to the power q
 pub key-below : (w : List ℕ) → every (λ b. isBase (upperOf b)) w ≡ true → keyOf w < 4 ^ length w
 unfolding keyOf
 key-below [] h = omega arith
 key-below (x ∷ w) h =
     let a = and-true (isBase (upperOf x)) (every (λ b. isBase (upperOf b)) w) h in
-    let c : codeOf x ≤ 3 = omega (arith, letter-below x (a .0)) in
+    let c : codeOf x ≤ 3 = omega (arith, letter-low x (a .0)) in
     omega (arith, key-below w (a .1), mul-le-mul-right (4 ^ length w) c, pow-suc 4 (length w))
 
 -- behind at most 30 bases there is room for one more

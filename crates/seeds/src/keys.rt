@@ -5,6 +5,7 @@ ghost use lib.ListN.{length};
 ghost use Rattle.lists.specs.Cut.{window};
 ghost use Rattle.bases.specs.Read.{oriented};
 ghost use Rattle.seeds.specs.Key.{keyOf, SeedIn};
+use bases::base::table;
 use bases::strand::oriented_code;
 
 // 4 to the power n.
@@ -26,10 +27,11 @@ pub fn key_at(sequence: &[u8], strand: u64, q: usize, start: usize) -> u64
     requires { ⌜ SeedIn (length (now sequence)) q start ⌝ }
     ensures { λ r. ⌜ r ≡ keyOf (window (oriented strand (now (sequence .entry))) start q) ⌝ }
 {
+    let table = table();
     let mut key: u64 = 0;
     let mut i = 0;
     while i < q {
-        key = key * 4 + oriented_code(sequence, strand, start + i);
+        key = key * 4 + oriented_code(&table, sequence, strand, start + i);
         i += 1;
     }
     key
@@ -41,7 +43,8 @@ pub fn key_next(sequence: &[u8], strand: u64, q: usize, start: usize, high: u64,
     requires { ⌜ (high ≡ 4 ^ (q - 1)) × (key ≡ keyOf (window (oriented strand (now sequence)) start q)) ⌝ }
     ensures { λ r. ⌜ r ≡ keyOf (window (oriented strand (now (sequence .entry))) (start + 1) q) ⌝ }
 {
-    let first = oriented_code(sequence, strand, start);
-    let last = oriented_code(sequence, strand, start + q);
+    let table = table();
+    let first = oriented_code(&table, sequence, strand, start);
+    let last = oriented_code(&table, sequence, strand, start + q);
     (key - first * high) * 4 + last
 }

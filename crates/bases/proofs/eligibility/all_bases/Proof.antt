@@ -10,22 +10,25 @@ use Rattle.bases.proofs.eligibility.all_bases.Statement.{statement}
 use Rattle.bases.proofs.eligibility.all_bases.Tie as tie
 
 abbrev Inv-loop : tie.InvT-loop
-Inv-loop bases i₀ i = (i ≤ length bases) × (letters bases ≡ letters (drop i bases))
+Inv-loop bases table i₀ i = (i ≤ length bases) × (letters bases ≡ letters (drop i bases))
 
 abbrev μ-loop : tie.MeasureT-loop
-μ-loop bases i₀ i = length bases - i
+μ-loop bases table i₀ i = length bases - i
+
+table-requires : tie.Need-table-requires Inv-loop μ-loop
+table-requires c κs = search needs
 
 loop-holds : tie.Need-loop-holds Inv-loop μ-loop
 loop-holds c = (omega arith, refl)
 
-shared-slice-read-code : tie.Need-shared-slice-read-code Inv-loop μ-loop
-shared-slice-read-code c = omega arith
+shared-slice-read-code-in : tie.Need-shared-slice-read-code-in Inv-loop μ-loop
+shared-slice-read-code-in c = omega arith
 
-code-requires : tie.Need-code-requires Inv-loop μ-loop
-code-requires c κs = search needs
+code-in-requires : tie.Need-code-in-requires Inv-loop μ-loop
+code-in-requires c κs = c .before .before .before .before .table .ensures
 
 returns : tie.Need-returns Inv-loop μ-loop
-returns c = sym (c .before .before .before .before .loop .inv .1 ∙ no-letter _ _ (c .before .before .before .loop-test .taken) (sym (c .before .code .ensures) ∙ c .if1 .taken))
+returns c = sym (c .before .before .before .before .before .loop .inv .1 ∙ no-letter _ _ (c .before .before .before .before .loop-test .taken) (sym (c .before .code-in .ensures) ∙ c .if1 .taken))
 
 add-i : tie.Need-add-i Inv-loop μ-loop
 add-i c = omega arith
@@ -34,7 +37,7 @@ loop-less : tie.Need-loop-less Inv-loop μ-loop
 loop-less c = omega arith
 
 loop-again : tie.Need-loop-again Inv-loop μ-loop
-loop-again c = (omega arith, c .before .before .before .before .loop .inv .1 ∙ a-letter _ _ (c .before .before .before .loop-test .taken) (λ e. c .if1 .left (c .before .code .ensures ∙ e)))
+loop-again c = (omega arith, c .before .before .before .before .before .loop .inv .1 ∙ a-letter _ _ (c .before .before .before .before .loop-test .taken) (λ e. c .if1 .left (c .before .code-in .ensures ∙ e)))
 
 returns-2 : tie.Need-returns-2 Inv-loop μ-loop
 returns-2 c = sym (c .before .loop .inv .1 ∙ ap letters (drop-of-length-le _ (c .loop-test .left)))
@@ -45,9 +48,10 @@ all-bases-spec =
     (tie.spec
     Inv-loop
     μ-loop
+    table-requires
     loop-holds
-    shared-slice-read-code
-    code-requires
+    shared-slice-read-code-in
+    code-in-requires
     returns
     add-i
     loop-less

@@ -10,44 +10,44 @@ use Rattle.bases.proofs.strand.oriented_code.Tie as tie
 returns : tie.Need-returns
 returns c = let a = c .before .before .args in past-end (a .strand) (a .bases .now) (a .i) (c .if1 .taken)
 
-shared-slice-read-code : tie.Need-shared-slice-read-code
-shared-slice-read-code c = search needs
+shared-slice-read-code-in : tie.Need-shared-slice-read-code-in
+shared-slice-read-code-in c = search needs
 
-code-requires : tie.Need-code-requires
-code-requires c κs = search needs
+code-in-requires : tie.Need-code-in-requires
+code-in-requires c κs = search needs
 
-sub-complement : tie.Need-sub-complement
-sub-complement c = search needs
+sub-complement-in : tie.Need-sub-complement-in
+sub-complement-in c = search needs
 
-sub-complement-2 : tie.Need-sub-complement-2
-sub-complement-2 c = search needs
+sub-complement-in-2 : tie.Need-sub-complement-in-2
+sub-complement-in-2 c = search needs
 
-shared-slice-read-complement : tie.Need-shared-slice-read-complement
-shared-slice-read-complement c = search needs
+shared-slice-read-complement-in : tie.Need-shared-slice-read-complement-in
+shared-slice-read-complement-in c = search needs
 
-complement-requires : tie.Need-complement-requires
-complement-requires c κs = search needs
+complement-in-requires : tie.Need-complement-in-requires
+complement-in-requires c κs = search needs
 
-code-requires-2 : tie.Need-code-requires-2
-code-requires-2 c κs = search needs
+code-in-requires-2 : tie.Need-code-in-requires-2
+code-in-requires-2 c κs = search needs
 
 returns-2 : tie.Need-returns-2
-returns-2 c = let a = c .before .before .before .before .before .args in c .code .ensures ∙ on-plus (a .strand) (a .bases .now) (a .i) (c .before .before .if2 .taken)
+returns-2 c = let a = c .before .before .before .before .before .args in c .code-in .ensures ∙ on-plus (a .strand) (a .bases .now) (a .i) (c .before .before .if2 .taken)
 
 returns-3 : tie.Need-returns-3
-returns-3 c = let a = c .before .before .before .before .before .before .args in c .code2 .ensures ∙ ap codeOf (c .before .complement .ensures) ∙ on-minus (a .strand) (a .bases .now) (a .i) (c .before .before .before .if2 .left) (c .before .before .before .before .if1 .left)
+returns-3 c = let a = c .before .before .before .before .before .before .args in c .code-in2 .ensures ∙ ap codeOf (c .before .complement-in .ensures) ∙ on-minus (a .strand) (a .bases .now) (a .i) (c .before .before .before .if2 .left) (c .before .before .before .before .if1 .left)
 
 pub oriented-code-spec : {M : Type 1} → statement M
 oriented-code-spec =
     tie.close
     (tie.spec
     returns
-    shared-slice-read-code
-    code-requires
-    sub-complement
-    sub-complement-2
-    shared-slice-read-complement
-    complement-requires
-    code-requires-2
+    shared-slice-read-code-in
+    code-in-requires
+    sub-complement-in
+    sub-complement-in-2
+    shared-slice-read-complement-in
+    complement-in-requires
+    code-in-requires-2
     returns-2
     returns-3)

@@ -23,7 +23,11 @@ stands-at-requires : tie.Need-stands-at-requires
 stands-at-requires c κs =
     let s = c .before .before .before .before .before .before .before in let a = s .args in let p = place (a .rank) (a .start) (a .strand) in
     let e = c .ranked-sequence .ensures in
-    (fit-inside (a .bases .now) (a .ends .now) (a .ranked .now) (a .read .now) (s .pre .0) p (s .pre .1 .0) _ e, (fit-capitals (a .bases .now) (a .ends .now) (a .ranked .now) (a .read .now) (s .pre .0) p (s .pre .1 .0) _ e, s .pre .0 .letters))
+    record {
+      fits = fit-inside (a .bases .now) (a .ends .now) (a .ranked .now) (a .read .now) (s .pre .0) p (s .pre .1 .0) _ e;
+      capitals = fit-capitals (a .bases .now) (a .ends .now) (a .ranked .now) (a .read .now) (s .pre .0) p (s .pre .1 .0) _ e;
+      letters = s .pre .0 .letters;
+    }
 
 returns : tie.Need-returns
 returns c =
