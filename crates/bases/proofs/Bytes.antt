@@ -9,9 +9,9 @@ use lib.Dec.{ltb, leb, eqb}
 use lib.ListN.{getD}
 use borrow.Author.Tests.{eqb-true, eqb-false, eq-eqb, ne-eqb, ltb-true, ltb-false, leb-true, le-leb, lt-leb}
 use Rattle.lists.specs.Keep.{every}
-use Rattle.lists.proofs.Cases.{by-test, clash, and-true, beq-true, eq-beq}
+use Rattle.lists.proofs.Cases.{by-test, clash, same-test, and-true, beq-true, eq-beq}
 use Rattle.lists.proofs.Below.{passesBelow, passes-at, tabulate, tabulate-at}
-use Rattle.bases.specs.Base.{beside, codes, complements, codeOf, complementOf, upperOf, isBase, mark}
+use Rattle.bases.specs.Base.{A, C, G, T, beside, codes, complements, codeOf, complementOf, upperOf, isBase, mark}
 
 -- ---- the table
 
@@ -117,6 +117,21 @@ pub code-le : (b : ℕ) → codeOf b ≤ mark
 unfolding codeOf
 code-le b =
     leb-true (codeOf b) mark (everywhere (λ b. leb (codeOf b) mark) refl (λ b h. le-leb (codeOf b) mark (omega (arith, code-above b h))) b)
+
+-- ---- letters by their codes
+
+-- the capital of a code
+letterOf : ℕ → ℕ
+letterOf n = beside ((0, A) ∷ (1, C) ∷ (2, G) ∷ (3, T) ∷ []) 0 n
+
+capital-of : (b : ℕ) → isBase b ≡ true → b ≡ letterOf (codeOf b)
+unfolding isBase codeOf letterOf
+capital-of b t = eqb-true b (letterOf (codeOf b)) (rw t at (everywhere (λ b. not (isBase b) || eqb b (letterOf (codeOf b))) refl (λ b h. rw (base-above b h)) b))
+
+-- capitals are one letter exactly if they have one code
+pub codes-decide : (x y : ℕ) → isBase x ≡ true → isBase y ≡ true → eqb x y ≡ eqb (codeOf x) (codeOf y)
+codes-decide x y hx hy =
+    same-test (λ e. eq-eqb _ _ (ap codeOf (eqb-true x y e))) (λ e. eq-eqb x y (capital-of x hx ∙ ap letterOf (eqb-true _ _ e) ∙ sym (capital-of y hy)))
 
 -- ---- letters by their last five bits
 

@@ -1,53 +1,25 @@
--- Codes decide between letters, and a comparison goes base by base.
+-- A comparison goes base by base.
 -- Assumes nothing.
 use mathlib.Core.Path.{_≡_, refl, sym, ap, _∙_}
-use mathlib.Core.Bool.{Bool, true, false, not, _&&_, _||_}
-use mathlib.Core.List.{List, [], _∷_}
+use mathlib.Core.Bool.{true, false, _&&_}
+use mathlib.Core.List.{List}
 use Prim.Native.Nat.{ℕ, zero, suc, _+_, _<_, _≤_}
 use native.Mathlib.Omega.{arith}
 use native.Mathlib.Numerals.{add-one}
 use lib.ListN.{length, getD, drop, length-map, length-drop}
 use lib.Seq.{take-all, getD-drop}
-use lib.Dec.{ltb, eqb}
-use borrow.Author.Tests.{eqb-true, eq-eqb, ne-eqb, ltb-true, ltb-false}
+use lib.Dec.{eqb}
 use Rattle.lists.specs.Keep.{every}
 use Rattle.lists.specs.Same.{same}
 use Rattle.lists.specs.Cut.{window}
-use Rattle.lists.proofs.Cases.{by-test, clash, same-test}
-use Rattle.lists.proofs.Below.{passes-at}
 use Rattle.lists.proofs.Every.{every-at}
 use Rattle.lists.proofs.Places.{getD-map}
 use Rattle.lists.proofs.Same.{same-next, differ-next}
-use Rattle.bases.specs.Base.{A, C, G, T, beside, isBase, codeOf, upperOf}
+use Rattle.bases.specs.Base.{A, isBase, codeOf, upperOf}
 use Rattle.bases.specs.Read.{oriented}
-use Rattle.bases.proofs.Bytes.{code-upper, letter-capital}
+use Rattle.bases.proofs.Bytes.{code-upper, codes-decide, letter-capital}
 use Rattle.bases.proofs.Turning.{folded-turned, letters-turned, length-oriented}
 use Rattle.places.specs.Place.{folded, Laid, standsTo}
-
--- ---- a capital by its code
-
-letterOf : ℕ → ℕ
-letterOf n = beside ((0, A) ∷ (1, C) ∷ (2, G) ∷ (3, T) ∷ []) 0 n
-
-capital-of : (b : ℕ) → isBase b ≡ true → b ≡ letterOf (codeOf b)
-unfolding isBase codeOf letterOf
-capital-of b t = by-test (ltb b 256) (λ e. low (ltb-true b 256 e)) (λ e. clash t (high (ltb-false b 256 e)))
-  where
-    right : ℕ → Bool
-    right b = not (isBase b) || eqb b (letterOf (codeOf b))
-
-    low : b < 256 → b ≡ letterOf (codeOf b)
-    low h = eqb-true b (letterOf (codeOf b)) (rw t at (passes-at right 256 refl b h))
-
-    high : 256 ≤ b → isBase b ≡ false
-    high h = simp (ne-eqb b 65 (λ e. omega arith), ne-eqb b 67 (λ e. omega arith), ne-eqb b 71 (λ e. omega arith), ne-eqb b 84 (λ e. omega arith))
-
--- capitals with one code are one letter
-same-code : (x y : ℕ) → isBase x ≡ true → isBase y ≡ true → codeOf x ≡ codeOf y → x ≡ y
-same-code x y hx hy e = capital-of x hx ∙ ap letterOf e ∙ sym (capital-of y hy)
-
-codes-decide : (x y : ℕ) → isBase x ≡ true → isBase y ≡ true → eqb x y ≡ eqb (codeOf x) (codeOf y)
-codes-decide x y hx hy = same-test (λ e. eq-eqb _ _ (ap codeOf (eqb-true x y e))) (λ e. eq-eqb x y (same-code x y hx hy (eqb-true _ _ e)))
 
 -- ---- a folded read on a strand
 
@@ -62,9 +34,6 @@ oriented-letters (suc s) read t = letters-turned read ∙ t
 -- ---- the first bases of a read compared
 
 module _ (s : List ℕ) (start : ℕ) (read : List ℕ) (strand : ℕ) where
-  pub compared-none : standsTo 0 s start read strand ≡ true
-  compared-none = refl
-
   pub compared-differ : (i j : ℕ) → i ≤ j → standsTo i s start read strand ≡ false → standsTo j s start read strand ≡ false
   compared-differ i j h t = differ-next (drop start s) (oriented strand (folded read)) i j h t
 

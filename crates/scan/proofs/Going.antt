@@ -25,7 +25,7 @@ length-entries ranked n (p ∷ ps) = omega (arith, length-entries ranked n ps)
 
 pub entries-append : (ranked : List ℕ) (n : ℕ) (ps qs : List Place) → entriesOf ranked n (ps ++ qs) ≡ entriesOf ranked n ps ++ entriesOf ranked n qs
 entries-append ranked n [] qs = refl
-entries-append ranked n (p ∷ ps) qs = ap (λ l. entryOf (getD ranked (p .rank) 0) (p .start) (p .start + n) (p .strand) ++ l) (entries-append ranked n ps qs)
+entries-append ranked n (p ∷ ps) qs = rw (entries-append ranked n ps qs)
 
 -- ---- the search of one place
 
