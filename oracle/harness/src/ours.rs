@@ -43,65 +43,33 @@ extern "C" {
     ) -> u64;
 }
 
+/// A call: slices that are written, slices that are read, the seed length, and for a mapping the reads and the limit.
+macro_rules! call {
+    ($f:ident [$($out:expr),*] [$($lent:expr),*] $q:expr $(; [$($read:expr),*] $limit:expr)?) => {
+        unsafe {
+            $f($($out.as_mut_ptr(), $out.len(),)* $($lent.as_ptr(), $lent.len(),)* $q $(, $($read.as_ptr(), $read.len(),)* $limit)?)
+        }
+    };
+}
+
 pub fn plan(answer: &mut [u64], c: &Catalogue, q: usize) -> u64 {
-    unsafe {
-        jekaumeo_plan(
-            answer.as_mut_ptr(), answer.len(),
-            c.identifiers.as_ptr(), c.identifiers.len(), c.identifier_ends.as_ptr(), c.identifier_ends.len(),
-            c.bases.as_ptr(), c.bases.len(), c.base_ends.as_ptr(), c.base_ends.len(), c.marks.as_ptr(), c.marks.len(),
-            q,
-        )
-    }
+    call!(jekaumeo_plan [answer] [c.identifiers, c.identifier_ends, c.bases, c.base_ends, c.marks] q)
 }
 
 pub fn build(answer: &mut [u64], columns: [&mut [u64]; 3], c: &Catalogue, q: usize) -> u64 {
     let [keys, ranks, positions] = columns;
-    unsafe {
-        jekaumeo_build(
-            answer.as_mut_ptr(), answer.len(),
-            keys.as_mut_ptr(), keys.len(), ranks.as_mut_ptr(), ranks.len(), positions.as_mut_ptr(), positions.len(),
-            c.identifiers.as_ptr(), c.identifiers.len(), c.identifier_ends.as_ptr(), c.identifier_ends.len(),
-            c.bases.as_ptr(), c.bases.len(), c.base_ends.as_ptr(), c.base_ends.len(), c.marks.as_ptr(), c.marks.len(),
-            q,
-        )
-    }
+    call!(jekaumeo_build [answer, keys, ranks, positions] [c.identifiers, c.identifier_ends, c.bases, c.base_ends, c.marks] q)
 }
 
-pub fn check_index(columns: &Columns, c: &Catalogue, q: usize) -> u64 {
-    let [keys, ranks, positions] = columns;
-    unsafe {
-        jekaumeo_check_index(
-            keys.as_ptr(), keys.len(), ranks.as_ptr(), ranks.len(), positions.as_ptr(), positions.len(),
-            c.identifiers.as_ptr(), c.identifiers.len(), c.identifier_ends.as_ptr(), c.identifier_ends.len(),
-            c.bases.as_ptr(), c.bases.len(), c.base_ends.as_ptr(), c.base_ends.len(), c.marks.as_ptr(), c.marks.len(),
-            q,
-        )
-    }
+pub fn check_index([keys, ranks, positions]: &Columns, c: &Catalogue, q: usize) -> u64 {
+    call!(jekaumeo_check_index [] [keys, ranks, positions, c.identifiers, c.identifier_ends, c.bases, c.base_ends, c.marks] q)
 }
 
-pub fn map(answer: &mut [u64], entries: &mut [u64], columns: &Columns, c: &Catalogue, q: usize, read: &[u8], limit: u64) -> u64 {
-    let [keys, ranks, positions] = columns;
-    unsafe {
-        jekaumeo_map(
-            answer.as_mut_ptr(), answer.len(), entries.as_mut_ptr(), entries.len(),
-            keys.as_ptr(), keys.len(), ranks.as_ptr(), ranks.len(), positions.as_ptr(), positions.len(),
-            c.identifiers.as_ptr(), c.identifiers.len(), c.identifier_ends.as_ptr(), c.identifier_ends.len(),
-            c.bases.as_ptr(), c.bases.len(), c.base_ends.as_ptr(), c.base_ends.len(), c.marks.as_ptr(), c.marks.len(),
-            q, read.as_ptr(), read.len(), limit,
-        )
-    }
+pub fn map(answer: &mut [u64], entries: &mut [u64], [keys, ranks, positions]: &Columns, c: &Catalogue, q: usize, read: &[u8], limit: u64) -> u64 {
+    call!(jekaumeo_map [answer, entries] [keys, ranks, positions, c.identifiers, c.identifier_ends, c.bases, c.base_ends, c.marks] q; [read] limit)
 }
 
 /// Eight numbers a row; each read has an equal share of the entries.
-pub fn map_reads(rows: &mut [u64], entries: &mut [u64], columns: &Columns, c: &Catalogue, q: usize, reads: &[u8], read_ends: &[usize], limit: u64) -> u64 {
-    let [keys, ranks, positions] = columns;
-    unsafe {
-        jekaumeo_map_reads(
-            rows.as_mut_ptr(), rows.len(), entries.as_mut_ptr(), entries.len(),
-            keys.as_ptr(), keys.len(), ranks.as_ptr(), ranks.len(), positions.as_ptr(), positions.len(),
-            c.identifiers.as_ptr(), c.identifiers.len(), c.identifier_ends.as_ptr(), c.identifier_ends.len(),
-            c.bases.as_ptr(), c.bases.len(), c.base_ends.as_ptr(), c.base_ends.len(), c.marks.as_ptr(), c.marks.len(),
-            q, reads.as_ptr(), reads.len(), read_ends.as_ptr(), read_ends.len(), limit,
-        )
-    }
+pub fn map_reads(rows: &mut [u64], entries: &mut [u64], [keys, ranks, positions]: &Columns, c: &Catalogue, q: usize, reads: &[u8], read_ends: &[usize], limit: u64) -> u64 {
+    call!(jekaumeo_map_reads [rows, entries] [keys, ranks, positions, c.identifiers, c.identifier_ends, c.bases, c.base_ends, c.marks] q; [reads, read_ends] limit)
 }
