@@ -15,7 +15,9 @@ slice-write-answer : tie.Need-slice-write-answer
 slice-write-answer c = search needs
 
 slice-write-answer-2 : tie.Need-slice-write-answer-2
-slice-write-answer-2 c = let a = c .before .before .before .args in omega (arith, c .before .before .before .pre, length-set (a .answer .now) 0 (c .before .planned .given .0 .0))
+slice-write-answer-2 c =
+    let a = c .before .before .before .args in
+    omega (arith, c .before .before .before .pre, length-set (a .answer .now) 0 (c .before .planned .given .0 .0))
 
 slice-write-answer-3 : tie.Need-slice-write-answer-3
 slice-write-answer-3 c = search needs
@@ -42,7 +44,9 @@ same-length-2 : tie.Need-same-length-2
 same-length-2 c = search needs
 
 returns-2 : tie.Need-returns-2
-returns-2 c = let g = c .before .planned2 .given in rw (g .1) (refl, put-3 (c .before .before .before .args .answer .now) _ _ _ (c .before .before .before .pre))
+returns-2 c =
+    let g = c .before .planned2 .given in
+    rw (g .1) (refl, put-3 (c .before .before .before .args .answer .now) _ _ _ (c .before .before .before .pre))
 
 pub put-plan-spec : {M : Type 1} → statement M
 put-plan-spec =

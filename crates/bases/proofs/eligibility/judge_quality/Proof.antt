@@ -11,10 +11,14 @@ returns-2 : tie.Need-returns-2
 returns-2 c = let a = c .before .before .args in past-last (a .floor) (a .offset) (a .q) (c .before .if1 .left) (c .if2 .taken)
 
 returns-3 : tie.Need-returns-3
-returns-3 c = let a = c .before .before .before .args in too-low (a .floor) (a .offset) (a .q) (c .before .before .if1 .left) (c .before .if2 .left) (c .if3 .taken)
+returns-3 c =
+    let a = c .before .before .before .args in
+    too-low (a .floor) (a .offset) (a .q) (c .before .before .if1 .left) (c .before .if2 .left) (c .if3 .taken)
 
 returns-4 : tie.Need-returns-4
-returns-4 c = let a = c .before .before .before .args in high-enough (a .floor) (a .offset) (a .q) (c .before .before .if1 .left) (c .before .if2 .left) (c .if3 .left)
+returns-4 c =
+    let a = c .before .before .before .args in
+    high-enough (a .floor) (a .offset) (a .q) (c .before .before .if1 .left) (c .before .if2 .left) (c .if3 .left)
 
 pub judge-quality-spec : {M : Type 1} → statement M
 judge-quality-spec = tie.close (tie.spec returns returns-2 returns-3 returns-4)

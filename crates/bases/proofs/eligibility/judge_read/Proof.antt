@@ -17,16 +17,22 @@ enum-told : tie.Need-enum-told
 enum-told c = search needs
 
 returns-2 : tie.Need-returns-2
-returns-2 c = let a = c .before .before .before .before .before .args in by-qualities (a .floor) (a .offset) (a .bases .now) (a .present) (a .qualities .now) (c .before .before .if1 .left) (c .before .judge-given .result) (c .before .judge-given .ensures) (c .match .keys2)
+returns-2 c =
+    let a = c .before .before .before .before .before .args in
+    by-qualities (a .floor) (a .offset) (a .bases .now) (a .present) (a .qualities .now) (c .before .before .if1 .left) (c .before .judge-given .result) (c .before .judge-given .ensures) (c .match .keys2)
 
 all-bases-requires : tie.Need-all-bases-requires
 all-bases-requires c κs = search needs
 
 returns-3 : tie.Need-returns-3
-returns-3 c = let a = c .before .before .before .before .before .before .before .before .args in by-bases (a .floor) (a .offset) (a .bases .now) (a .present) (a .qualities .now) (c .before .before .before .before .before .if1 .left) (c .before .before .before .before .judge-given .result) (c .before .before .before .before .judge-given .ensures) (c .before .before .before .match .keys1) true (sym (c .before .all-bases .ensures) ∙ c .if2 .taken)
+returns-3 c =
+    let a = c .before .before .before .before .before .before .before .before .args in
+    by-bases (a .floor) (a .offset) (a .bases .now) (a .present) (a .qualities .now) (c .before .before .before .before .before .if1 .left) (c .before .before .before .before .judge-given .result) (c .before .before .before .before .judge-given .ensures) (c .before .before .before .match .keys1) true (sym (c .before .all-bases .ensures) ∙ c .if2 .taken)
 
 returns-4 : tie.Need-returns-4
-returns-4 c = let a = c .before .before .before .before .before .before .before .before .args in by-bases (a .floor) (a .offset) (a .bases .now) (a .present) (a .qualities .now) (c .before .before .before .before .before .if1 .left) (c .before .before .before .before .judge-given .result) (c .before .before .before .before .judge-given .ensures) (c .before .before .before .match .keys1) false (sym (c .before .all-bases .ensures) ∙ c .if2 .left)
+returns-4 c =
+    let a = c .before .before .before .before .before .before .before .before .args in
+    by-bases (a .floor) (a .offset) (a .bases .now) (a .present) (a .qualities .now) (c .before .before .before .before .before .if1 .left) (c .before .before .before .before .judge-given .result) (c .before .before .before .before .judge-given .ensures) (c .before .before .before .match .keys1) false (sym (c .before .all-bases .ensures) ∙ c .if2 .left)
 
 pub judge-read-spec : {M : Type 1} → statement M
 judge-read-spec =

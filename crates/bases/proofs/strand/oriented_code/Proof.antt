@@ -32,10 +32,14 @@ code-in-requires-2 : tie.Need-code-in-requires-2
 code-in-requires-2 c κs = search needs
 
 returns-2 : tie.Need-returns-2
-returns-2 c = let a = c .before .before .before .before .before .args in c .code-in .ensures ∙ on-plus (a .strand) (a .bases .now) (a .i) (c .before .before .if2 .taken)
+returns-2 c =
+    let a = c .before .before .before .before .before .args in
+    c .code-in .ensures ∙ on-plus (a .strand) (a .bases .now) (a .i) (c .before .before .if2 .taken)
 
 returns-3 : tie.Need-returns-3
-returns-3 c = let a = c .before .before .before .before .before .before .args in c .code-in2 .ensures ∙ ap codeOf (c .before .complement-in .ensures) ∙ on-minus (a .strand) (a .bases .now) (a .i) (c .before .before .before .if2 .left) (c .before .before .before .before .if1 .left)
+returns-3 c =
+    let a = c .before .before .before .before .before .before .args in
+    c .code-in2 .ensures ∙ ap codeOf (c .before .complement-in .ensures) ∙ on-minus (a .strand) (a .bases .now) (a .i) (c .before .before .before .if2 .left) (c .before .before .before .before .if1 .left)
 
 pub oriented-code-spec : {M : Type 1} → statement M
 oriented-code-spec =

@@ -28,7 +28,9 @@ is-base-requires : tie.Need-is-base-requires Inv-loop μ-loop
 is-base-requires c κs = search needs
 
 returns : tie.Need-returns Inv-loop μ-loop
-returns c = let a = c .before .before .before .before .before .before .args in sym (c .before .before .before .before .loop .inv .1 ∙ every-fails isBase 0 (a .bases .now) _ (c .before .before .before .loop-test .taken) (sym (c .before .is-base .ensures) ∙ not-true _ (c .if1 .taken)))
+returns c =
+    let a = c .before .before .before .before .before .before .args in
+    sym (c .before .before .before .before .loop .inv .1 ∙ every-fails isBase 0 (a .bases .now) _ (c .before .before .before .loop-test .taken) (sym (c .before .is-base .ensures) ∙ not-true _ (c .if1 .taken)))
 
 add-i : tie.Need-add-i Inv-loop μ-loop
 add-i c = search needs
@@ -37,7 +39,9 @@ loop-less : tie.Need-loop-less Inv-loop μ-loop
 loop-less c = search needs
 
 loop-again : tie.Need-loop-again Inv-loop μ-loop
-loop-again c = let a = c .before .before .before .before .before .before .args in (omega arith, c .before .before .before .before .loop .inv .1 ∙ every-passes isBase 0 (a .bases .now) _ (c .before .before .before .loop-test .taken) (sym (c .before .is-base .ensures) ∙ not-false _ (c .if1 .left)))
+loop-again c =
+    let a = c .before .before .before .before .before .before .args in
+    (omega arith, c .before .before .before .before .loop .inv .1 ∙ every-passes isBase 0 (a .bases .now) _ (c .before .before .before .loop-test .taken) (sym (c .before .is-base .ensures) ∙ not-false _ (c .if1 .left)))
 
 returns-2 : tie.Need-returns-2 Inv-loop μ-loop
 returns-2 c = let a = c .before .before .before .args in sym (c .before .loop .inv .1 ∙ every-end isBase (a .bases .now) _ (c .loop-test .left))

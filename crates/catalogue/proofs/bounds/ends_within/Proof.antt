@@ -26,10 +26,14 @@ shared-slice-read-end : tie.Need-shared-slice-read-end Inv-loop μ-loop
 shared-slice-read-end c = search needs
 
 returns : tie.Need-returns Inv-loop μ-loop
-returns c = let a = c .before .before .before .before .args in sym (c .before .before .before .loop .inv .1 ∙ falls _ _ (a .ends .now) _ (c .before .before .loop-test .taken) (c .if1 .taken))
+returns c =
+    let a = c .before .before .before .before .args in
+    sym (c .before .before .before .loop .inv .1 ∙ falls _ _ (a .ends .now) _ (c .before .before .loop-test .taken) (c .if1 .taken))
 
 returns-2 : tie.Need-returns-2 Inv-loop μ-loop
-returns-2 c = let a = c .before .before .before .before .before .args in sym (c .before .before .before .before .loop .inv .1 ∙ passes-most _ _ (a .ends .now) _ (c .before .before .before .loop-test .taken) (c .before .if1 .left) (c .if2 .taken))
+returns-2 c =
+    let a = c .before .before .before .before .before .args in
+    sym (c .before .before .before .before .loop .inv .1 ∙ passes-most _ _ (a .ends .now) _ (c .before .before .before .loop-test .taken) (c .before .if1 .left) (c .if2 .taken))
 
 add-i : tie.Need-add-i Inv-loop μ-loop
 add-i c = search needs
@@ -38,7 +42,9 @@ loop-less : tie.Need-loop-less Inv-loop μ-loop
 loop-less c = search needs
 
 loop-again : tie.Need-loop-again Inv-loop μ-loop
-loop-again c = let a = c .before .before .before .before .before .args in (omega arith, c .before .before .before .before .loop .inv .1 ∙ stays-within _ _ (a .ends .now) _ (c .before .before .before .loop-test .taken) (c .before .if1 .left) (c .if2 .left))
+loop-again c =
+    let a = c .before .before .before .before .before .args in
+    (omega arith, c .before .before .before .before .loop .inv .1 ∙ stays-within _ _ (a .ends .now) _ (c .before .before .before .loop-test .taken) (c .before .if1 .left) (c .if2 .left))
 
 returns-3 : tie.Need-returns-3 Inv-loop μ-loop
 returns-3 c = sym (c .before .loop .inv .1 ∙ ap (endsWithin _ _) (drop-of-length-le _ (c .loop-test .left)))

@@ -27,10 +27,16 @@ shared-slice-read-end : tie.Need-shared-slice-read-end Inv-loop μ-loop
 shared-slice-read-end c = search needs
 
 sub-if1 : tie.Need-sub-if1 Inv-loop μ-loop
-sub-if1 c = let a = c .before .before .before .args in let e = ends-here (λ s. leb (length s) (a .most)) (a .ends .now) (a .bytes .now) _ _ (c .before .before .loop .inv) (c .before .loop-test .taken) in omega arith
+sub-if1 c =
+    let a = c .before .before .before .args in
+    let e = ends-here (λ s. leb (length s) (a .most)) (a .ends .now) (a .bytes .now) _ _ (c .before .before .loop .inv) (c .before .loop-test .taken) in
+    omega arith
 
 returns : tie.Need-returns Inv-loop μ-loop
-returns c = let a = c .before .before .before .before .args in let l = length-here (λ s. leb (length s) (a .most)) (a .ends .now) (a .bytes .now) _ _ (c .before .before .before .loop .inv) (c .before .before .loop-test .taken) in every-stop (λ s. leb (length s) (a .most)) (a .ends .now) (a .bytes .now) _ _ (c .before .before .before .loop .inv) (c .before .before .loop-test .taken) (ap (λ n. leb n (a .most)) l ∙ lt-leb _ _ (c .if1 .taken))
+returns c =
+    let a = c .before .before .before .before .args in
+    let l = length-here (λ s. leb (length s) (a .most)) (a .ends .now) (a .bytes .now) _ _ (c .before .before .before .loop .inv) (c .before .before .loop-test .taken) in
+    every-stop (λ s. leb (length s) (a .most)) (a .ends .now) (a .bytes .now) _ _ (c .before .before .before .loop .inv) (c .before .before .loop-test .taken) (ap (λ n. leb n (a .most)) l ∙ lt-leb _ _ (c .if1 .taken))
 
 add-i : tie.Need-add-i Inv-loop μ-loop
 add-i c = search needs
@@ -39,10 +45,15 @@ loop-less : tie.Need-loop-less Inv-loop μ-loop
 loop-less c = search needs
 
 loop-again : tie.Need-loop-again Inv-loop μ-loop
-loop-again c = let a = c .before .before .before .before .args in let l = length-here (λ s. leb (length s) (a .most)) (a .ends .now) (a .bytes .now) _ _ (c .before .before .before .loop .inv) (c .before .before .loop-test .taken) in every-go (λ s. leb (length s) (a .most)) (a .ends .now) (a .bytes .now) _ _ (c .before .before .before .loop .inv) (c .before .before .loop-test .taken) (ap (λ n. leb n (a .most)) l ∙ le-leb _ _ (c .if1 .left))
+loop-again c =
+    let a = c .before .before .before .before .args in
+    let l = length-here (λ s. leb (length s) (a .most)) (a .ends .now) (a .bytes .now) _ _ (c .before .before .before .loop .inv) (c .before .before .loop-test .taken) in
+    every-go (λ s. leb (length s) (a .most)) (a .ends .now) (a .bytes .now) _ _ (c .before .before .before .loop .inv) (c .before .before .loop-test .taken) (ap (λ n. leb n (a .most)) l ∙ le-leb _ _ (c .if1 .left))
 
 returns-2 : tie.Need-returns-2 Inv-loop μ-loop
-returns-2 c = let a = c .before .before .args in every-done (λ s. leb (length s) (a .most)) (a .ends .now) (a .bytes .now) _ _ (c .before .loop .inv) (c .loop-test .left)
+returns-2 c =
+    let a = c .before .before .args in
+    every-done (λ s. leb (length s) (a .most)) (a .ends .now) (a .bytes .now) _ _ (c .before .loop .inv) (c .loop-test .left)
 
 pub lengths-within-spec : {M : Type 1} → statement M
 lengths-within-spec =

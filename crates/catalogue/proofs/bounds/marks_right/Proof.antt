@@ -25,7 +25,9 @@ shared-slice-read-if1 : tie.Need-shared-slice-read-if1 Inv-loop μ-loop
 shared-slice-read-if1 c = search needs
 
 returns : tie.Need-returns Inv-loop μ-loop
-returns c = let a = c .before .before .before .before .args in sym (c .before .before .before .loop .inv .1 ∙ every-fails (λ m. leb m 1) 0 (a .marks .now) _ (c .before .before .loop-test .taken) (lt-leb _ _ (c .if1 .taken)))
+returns c =
+    let a = c .before .before .before .before .args in
+    sym (c .before .before .before .loop .inv .1 ∙ every-fails (λ m. leb m 1) 0 (a .marks .now) _ (c .before .before .loop-test .taken) (lt-leb _ _ (c .if1 .taken)))
 
 add-i : tie.Need-add-i Inv-loop μ-loop
 add-i c = search needs
@@ -34,7 +36,9 @@ loop-less : tie.Need-loop-less Inv-loop μ-loop
 loop-less c = search needs
 
 loop-again : tie.Need-loop-again Inv-loop μ-loop
-loop-again c = let a = c .before .before .before .before .args in (omega arith, c .before .before .before .loop .inv .1 ∙ every-passes (λ m. leb m 1) 0 (a .marks .now) _ (c .before .before .loop-test .taken) (le-leb _ _ (c .if1 .left)))
+loop-again c =
+    let a = c .before .before .before .before .args in
+    (omega arith, c .before .before .before .loop .inv .1 ∙ every-passes (λ m. leb m 1) 0 (a .marks .now) _ (c .before .before .loop-test .taken) (le-leb _ _ (c .if1 .left)))
 
 returns-2 : tie.Need-returns-2 Inv-loop μ-loop
 returns-2 c = let a = c .before .before .args in sym (c .before .loop .inv .1 ∙ every-end (λ m. leb m 1) (a .marks .now) _ (c .loop-test .left))

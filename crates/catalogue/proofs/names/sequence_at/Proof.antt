@@ -20,16 +20,27 @@ shared-slice-read-end : tie.Need-shared-slice-read-end
 shared-slice-read-end c = search needs
 
 sub-result : tie.Need-sub-result
-sub-result c = let a = c .before .before .before .before .args in let e = ends-at 0 (length (a .bytes .now)) (a .ends .now) (c .before .before .before .before .pre .0) (a .i) (c .before .before .before .before .pre .1) in omega (arith, c .before .start-at .ensures)
+sub-result c =
+    let a = c .before .before .before .before .args in
+    let e = ends-at 0 (length (a .bytes .now)) (a .ends .now) (c .before .before .before .before .pre .0) (a .i) (c .before .before .before .before .pre .1) in
+    omega (arith, c .before .start-at .ensures)
 
 part-result-start : tie.Need-part-result-start
-part-result-start c = let a = c .before .before .before .before .args in let e = ends-at 0 (length (a .bytes .now)) (a .ends .now) (c .before .before .before .before .pre .0) (a .i) (c .before .before .before .before .pre .1) in omega (arith, c .before .start-at .ensures)
+part-result-start c =
+    let a = c .before .before .before .before .args in
+    let e = ends-at 0 (length (a .bytes .now)) (a .ends .now) (c .before .before .before .before .pre .0) (a .i) (c .before .before .before .before .pre .1) in
+    omega (arith, c .before .start-at .ensures)
 
 part-result-end : tie.Need-part-result-end
-part-result-end c = let a = c .before .before .before .before .args in let e = ends-at 0 (length (a .bytes .now)) (a .ends .now) (c .before .before .before .before .pre .0) (a .i) (c .before .before .before .before .pre .1) in omega (arith, c .before .start-at .ensures)
+part-result-end c =
+    let a = c .before .before .before .before .args in
+    let e = ends-at 0 (length (a .bytes .now)) (a .ends .now) (c .before .before .before .before .pre .0) (a .i) (c .before .before .before .before .pre .1) in
+    omega (arith, c .before .start-at .ensures)
 
 returns : tie.Need-returns
-returns c = let a = c .before .before .before .before .before .args in ap (λ n. window (a .bytes .now) n (getD (a .ends .now) (a .i) 0 - n)) (c .before .before .start-at .ensures) ∙ sym (cut-at 0 (a .ends .now) (a .bytes .now) (a .i) (c .before .before .before .before .before .pre .1))
+returns c =
+    let a = c .before .before .before .before .before .args in
+    ap (λ n. window (a .bytes .now) n (getD (a .ends .now) (a .i) 0 - n)) (c .before .before .start-at .ensures) ∙ sym (cut-at 0 (a .ends .now) (a .bytes .now) (a .i) (c .before .before .before .before .before .pre .1))
 
 pub sequence-at-spec : {M : Type 1} → statement M
 sequence-at-spec =

@@ -25,7 +25,9 @@ slice-read-place : tie.Need-slice-read-place Inv-loop μ-loop
 slice-read-place c = search needs
 
 shared-slice-read-keep-place : tie.Need-shared-slice-read-keep-place Inv-loop μ-loop
-shared-slice-read-keep-place c = let a = c .before .before .before .before .before .before .before .args in element-below (linearAt (a .marks .now)) (a .order .now) (c .before .before .before .before .loop .order) _ _ (c .before .before .before .before .loop .inv) _ (c .before .before .before .before .before .before .before .pre) (omega (arith, c .before .before .before .before .loop .inv .long))
+shared-slice-read-keep-place c =
+    let a = c .before .before .before .before .before .before .before .args in
+    element-below (linearAt (a .marks .now)) (a .order .now) (c .before .before .before .before .loop .order) _ _ (c .before .before .before .before .loop .inv) _ (c .before .before .before .before .before .before .before .pre) (omega (arith, c .before .before .before .before .loop .inv .long))
 
 keep-place-requires : tie.Need-keep-place-requires Inv-loop μ-loop
 keep-place-requires c κs = omega arith
@@ -37,13 +39,18 @@ loop-less : tie.Need-loop-less Inv-loop μ-loop
 loop-less c = search needs
 
 loop-again : tie.Need-loop-again Inv-loop μ-loop
-loop-again c = let a = c .before .before .before .before .before .before .before .before .before .before .args in filtering-next (linearAt (a .marks .now)) (a .order .now) (c .before .before .before .before .before .before .before .loop .order) _ _ (c .before .before .before .before .before .before .before .loop .inv) (omega (arith, c .before .before .before .before .before .before .before .loop .inv .long)) _ _ (c .before .before .keep-place .ensures .0) (c .before .before .keep-place .ensures .1)
+loop-again c =
+    let a = c .before .before .before .before .before .before .before .before .before .before .args in
+    filtering-next (linearAt (a .marks .now)) (a .order .now) (c .before .before .before .before .before .before .before .loop .order) _ _ (c .before .before .before .before .before .before .before .loop .inv) (omega (arith, c .before .before .before .before .before .before .before .loop .inv .long)) _ _ (c .before .before .keep-place .ensures .0) (c .before .before .keep-place .ensures .1)
 
 same-length : tie.Need-same-length Inv-loop μ-loop
 same-length c = omega arith
 
 returns : tie.Need-returns Inv-loop μ-loop
-returns c = let a = c .before .before .before .before .args in let e = filtering-end (linearAt (a .marks .now)) (a .order .now) (c .before .loop .order) _ _ (c .before .loop .inv) (omega (arith, c .before .loop .inv .long)) in record { count = e .0; places = e .1 }
+returns c =
+    let a = c .before .before .before .before .args in
+    let e = filtering-end (linearAt (a .marks .now)) (a .order .now) (c .before .loop .order) _ _ (c .before .loop .inv) (omega (arith, c .before .loop .inv .long)) in
+    record { count = e .0; places = e .1 }
 
 pub keep-linear-spec : {M : Type 1} → statement M
 keep-linear-spec =

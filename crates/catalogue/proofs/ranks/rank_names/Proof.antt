@@ -18,7 +18,11 @@ same-length : tie.Need-same-length
 same-length c = search needs
 
 returns : tie.Need-returns
-returns c = let a = c .before .before .before .before .before .before .before .before .before .args in let ns = cut (a .ends .now) (a .identifiers .now) in let o = c .before .before .before .order-names .ensures in names-refused ns (a .marks .now) (sym (o .distinct) ∙ not-true _ (c .if1 .taken)) _
+returns c =
+    let a = c .before .before .before .before .before .before .before .before .before .args in
+    let ns = cut (a .ends .now) (a .identifiers .now) in
+    let o = c .before .before .before .order-names .ensures in
+    names-refused ns (a .marks .now) (sym (o .distinct) ∙ not-true _ (c .if1 .taken)) _
 
 keep-linear-requires : tie.Need-keep-linear-requires
 keep-linear-requires c κs =

@@ -20,7 +20,9 @@ all-proper-requires : tie.Need-all-proper-requires
 all-proper-requires c κs = let w = sym (c .before .in-bounds .ensures) ∙ not-false _ (c .if1 .left) in bounded _ w .based
 
 returns-2 : tie.Need-returns-2
-returns-2 c = let w = sym (c .before .before .before .in-bounds .ensures) ∙ not-false _ (c .before .before .if1 .left) in bad-bases _ w (sym (c .before .all-proper .ensures) ∙ not-true _ (c .if2 .taken)) _
+returns-2 c =
+    let w = sym (c .before .before .before .in-bounds .ensures) ∙ not-false _ (c .before .before .if1 .left) in
+    bad-bases _ w (sym (c .before .all-proper .ensures) ∙ not-true _ (c .if2 .taken)) _
 
 slice-relend-prefix-rank-names : tie.Need-slice-relend-prefix-rank-names
 slice-relend-prefix-rank-names c =

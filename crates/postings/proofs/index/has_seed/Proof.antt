@@ -18,7 +18,9 @@ key-at-requires : tie.Need-key-at-requires
 key-at-requires c κs = search needs
 
 returns-3 : tie.Need-returns-3
-returns-3 c = let a = c .before .before .before .before .args in by-key (a .q) (a .sequence .now) (a .start) (a .key) (c .before .before .if1 .left) (c .before .if2 .left) _ (c .key-at .ensures)
+returns-3 c =
+    let a = c .before .before .before .before .args in
+    by-key (a .q) (a .sequence .now) (a .start) (a .key) (c .before .before .if1 .left) (c .before .if2 .left) _ (c .key-at .ensures)
 
 pub has-seed-spec : {M : Type 1} → statement M
 has-seed-spec = tie.close (tie.spec returns sub-if2 returns-2 key-at-requires returns-3)

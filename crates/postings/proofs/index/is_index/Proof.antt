@@ -11,13 +11,22 @@ count-postings-requires : tie.Need-count-postings-requires
 count-postings-requires c κs = search needs
 
 returns : tie.Need-returns
-returns c = let a = c .before .before .before .before .before .before .before .before .args in let ss = rankedSequences (a .bases .now) (a .ends .now) (a .ranked .now) in other-number (a .q) ss (a .keys .now) (a .ranks .now) (a .positions .now) (λ e. omega (arith, c .if1 .taken, e .0, length-index (a .q) ss, c .before .count-postings .ensures))
+returns c =
+    let a = c .before .before .before .before .before .before .before .before .args in
+    let ss = rankedSequences (a .bases .now) (a .ends .now) (a .ranked .now) in
+    other-number (a .q) ss (a .keys .now) (a .ranks .now) (a .positions .now) (λ e. omega (arith, c .if1 .taken, e .0, length-index (a .q) ss, c .before .count-postings .ensures))
 
 returns-2 : tie.Need-returns-2
-returns-2 c = let a = c .before .before .before .before .before .before .before .before .before .args in let ss = rankedSequences (a .bases .now) (a .ends .now) (a .ranked .now) in other-number (a .q) ss (a .keys .now) (a .ranks .now) (a .positions .now) (λ e. omega (arith, c .if2 .taken, e .1, length-index (a .q) ss, c .before .before .count-postings .ensures))
+returns-2 c =
+    let a = c .before .before .before .before .before .before .before .before .before .args in
+    let ss = rankedSequences (a .bases .now) (a .ends .now) (a .ranked .now) in
+    other-number (a .q) ss (a .keys .now) (a .ranks .now) (a .positions .now) (λ e. omega (arith, c .if2 .taken, e .1, length-index (a .q) ss, c .before .before .count-postings .ensures))
 
 returns-3 : tie.Need-returns-3
-returns-3 c = let a = c .before .before .before .before .before .before .before .before .before .before .args in let ss = rankedSequences (a .bases .now) (a .ends .now) (a .ranked .now) in other-number (a .q) ss (a .keys .now) (a .ranks .now) (a .positions .now) (λ e. omega (arith, c .if3 .taken, e .2, length-index (a .q) ss, c .before .before .before .count-postings .ensures))
+returns-3 c =
+    let a = c .before .before .before .before .before .before .before .before .before .before .args in
+    let ss = rankedSequences (a .bases .now) (a .ends .now) (a .ranked .now) in
+    other-number (a .q) ss (a .keys .now) (a .ranks .now) (a .positions .now) (λ e. omega (arith, c .if3 .taken, e .2, length-index (a .q) ss, c .before .before .before .count-postings .ensures))
 
 rows-right-requires : tie.Need-rows-right-requires
 rows-right-requires c κs = search needs

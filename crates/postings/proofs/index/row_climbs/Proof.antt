@@ -15,7 +15,9 @@ precedes-requires : tie.Need-precedes-requires
 precedes-requires c κs = search needs
 
 returns-2 : tie.Need-returns-2
-returns-2 c = let a = c .before .before .before .before .before .args in next-climbs (a .keys .now) (a .ranks .now) (a .positions .now) (a .i) (c .before .if1 .left) _ (c .precedes .ensures)
+returns-2 c =
+    let a = c .before .before .before .before .before .args in
+    next-climbs (a .keys .now) (a .ranks .now) (a .positions .now) (a .i) (c .before .if1 .left) _ (c .precedes .ensures)
 
 pub row-climbs-spec : {M : Type 1} → statement M
 row-climbs-spec = tie.close (tie.spec returns sub-precedes precedes-requires returns-2)

@@ -23,10 +23,14 @@ posting-key-requires : tie.Need-posting-key-requires Inv-loop μ-loop
 posting-key-requires c κs = c .loop-test .taken
 
 posting-rank-requires : tie.Need-posting-rank-requires Inv-loop μ-loop
-posting-rank-requires c κs = let p = c .before .before .before .before .before .before .before .before .before .pre .0 in omega (arith, p .ranks, c .before .loop-test .taken)
+posting-rank-requires c κs =
+    let p = c .before .before .before .before .before .before .before .before .before .pre .0 in
+    omega (arith, p .ranks, c .before .loop-test .taken)
 
 posting-position-requires : tie.Need-posting-position-requires Inv-loop μ-loop
-posting-position-requires c κs = let p = c .before .before .before .before .before .before .before .before .before .before .pre .0 in omega (arith, p .positions, c .before .before .loop-test .taken)
+posting-position-requires c κs =
+    let p = c .before .before .before .before .before .before .before .before .before .before .pre .0 in
+    omega (arith, p .positions, c .before .before .loop-test .taken)
 
 is-seed-requires : tie.Need-is-seed-requires Inv-loop μ-loop
 is-seed-requires c κs = c .before .before .before .before .before .before .before .before .before .before .before .pre .1

@@ -19,19 +19,31 @@ enum-known-ranking-2 : tie.Need-enum-known-ranking-2
 enum-known-ranking-2 c = search needs
 
 array-share-prefix-places : tie.Need-array-share-prefix-places
-array-share-prefix-places c = let r = c .before .before .before .before .rank-checked in let g = c .before .ranking2 .given in within-buffer _ _ _ _ (r .ensures) _ (g .1)
+array-share-prefix-places c =
+    let r = c .before .before .before .before .rank-checked in
+    let g = c .before .ranking2 .given in
+    within-buffer _ _ _ _ (r .ensures) _ (g .1)
 
 slice-aggregate-count-postings : tie.Need-slice-aggregate-count-postings
-slice-aggregate-count-postings c = let r = c .before .before .before .before .before .rank-checked in let g = c .before .before .ranking2 .given in prefix-length _ _ _ _ (r .ensures) _ (g .1)
+slice-aggregate-count-postings c =
+    let r = c .before .before .before .before .before .rank-checked in
+    let g = c .before .before .ranking2 .given in
+    prefix-length _ _ _ _ (r .ensures) _ (g .1)
 
 count-postings-requires : tie.Need-count-postings-requires
-count-postings-requires c κs = let r = c .before .before .before .before .before .rank-checked in let g = c .before .before .ranking2 .given in (lent _ _ _ _ (r .ensures) _ (g .1) (omega (arith, r .kept .0)), seed-length _ _ _ _ (r .ensures) _ (g .1))
+count-postings-requires c κs =
+    let r = c .before .before .before .before .before .rank-checked in
+    let g = c .before .before .ranking2 .given in
+    (lent _ _ _ _ (r .ensures) _ (g .1) (omega (arith, r .kept .0)), seed-length _ _ _ _ (r .ensures) _ (g .1))
 
 returns : tie.Need-returns
 returns c = let r = c .before .before .before .before .rank-checked in let g = c .before .ranking .given in plan-refused _ _ _ _ (r .ensures) _ (g .1)
 
 returns-2 : tie.Need-returns-2
-returns-2 c = let r = c .before .before .before .before .before .before .rank-checked in let g = c .before .before .before .ranking2 .given in plan-done _ _ _ _ (r .ensures) _ (g .1) _ (c .count-postings .ensures)
+returns-2 c =
+    let r = c .before .before .before .before .before .before .rank-checked in
+    let g = c .before .before .before .ranking2 .given in
+    plan-done _ _ _ _ (r .ensures) _ (g .1) _ (c .count-postings .ensures)
 
 pub plan-spec : {M : Type 1} → statement M
 plan-spec =

@@ -13,10 +13,14 @@ shared-slice-read-sequence-at : tie.Need-shared-slice-read-sequence-at
 shared-slice-read-sequence-at c = search needs
 
 sequence-at-requires : tie.Need-sequence-at-requires
-sequence-at-requires c κs = let a = c .before .before .before .before .args in (c .before .before .before .before .pre .0 .right, place-below (a .bases .now) (a .ends .now) (a .ranked .now) (c .before .before .before .before .pre .0) (a .rank) (c .before .before .before .before .pre .1))
+sequence-at-requires c κs =
+    let a = c .before .before .before .before .args in
+    (c .before .before .before .before .pre .0 .right, place-below (a .bases .now) (a .ends .now) (a .ranked .now) (c .before .before .before .before .pre .0) (a .rank) (c .before .before .before .before .pre .1))
 
 returns : tie.Need-returns
-returns c = let a = c .before .before .before .before .before .args in c .sequence-at .ensures ∙ ranked-at (a .bases .now) (a .ends .now) (a .ranked .now) (c .before .before .before .before .before .pre .0) (a .rank) (c .before .before .before .before .before .pre .1)
+returns c =
+    let a = c .before .before .before .before .before .args in
+    c .sequence-at .ensures ∙ ranked-at (a .bases .now) (a .ends .now) (a .ranked .now) (c .before .before .before .before .before .pre .0) (a .rank) (c .before .before .before .before .before .pre .1)
 
 pub ranked-sequence-spec : {M : Type 1} → statement M
 ranked-sequence-spec =

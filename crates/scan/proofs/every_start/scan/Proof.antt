@@ -30,12 +30,16 @@ scan-sequence-requires c κs =
 
 same-length : tie.Need-same-length Inv-loop μ-loop
 same-length c =
-    let s = c .before .before .before .before .before .before .before .before .before .before .before .before .before in let a = s .args in let ss = rankedSequences (a .bases .now) (a .ends .now) (a .ranked .now) in
+    let s = c .before .before .before .before .before .before .before .before .before .before .before .before .before in
+    let a = s .args in
+    let ss = rankedSequences (a .bases .now) (a .ends .now) (a .ranked .now) in
     c .before .before .before .before .scan-sequence .kept .0 ∙ ranks-length ss (a .ranked .now) (a .read .now) (a .bound) (a .entries .now) (s .pre .1) _ _ _ _ (c .before .before .before .before .before .before .before .loop .inv)
 
 returns : tie.Need-returns Inv-loop μ-loop
 returns c =
-    let s = c .before .before .before .before .before .before .before .before .before .before .before .before .before in let a = s .args in let ss = rankedSequences (a .bases .now) (a .ends .now) (a .ranked .now) in
+    let s = c .before .before .before .before .before .before .before .before .before .before .before .before .before in
+    let a = s .args in
+    let ss = rankedSequences (a .bases .now) (a .ends .now) (a .ranked .now) in
     let many = ranked-many (a .bases .now) (a .ends .now) (a .ranked .now) in
     let below : c .before .before .before .before .before .before .before .loop .rank < length ss = omega (arith, many, c .before .before .before .before .before .before .loop-test .taken) in
     let long = ranked-length (a .bases .now) (a .ends .now) (a .ranked .now) (s .pre .0 .lent) _ (c .before .before .before .before .before .before .loop-test .taken) in
@@ -51,7 +55,9 @@ loop-less c = omega (arith, c .before .before .before .before .before .before .l
 
 loop-again : tie.Need-loop-again Inv-loop μ-loop
 loop-again c =
-    let s = c .before .before .before .before .before .before .before .before .before .before .before .before .before in let a = s .args in let ss = rankedSequences (a .bases .now) (a .ends .now) (a .ranked .now) in
+    let s = c .before .before .before .before .before .before .before .before .before .before .before .before .before in
+    let a = s .args in
+    let ss = rankedSequences (a .bases .now) (a .ends .now) (a .ranked .now) in
     let many = ranked-many (a .bases .now) (a .ends .now) (a .ranked .now) in
     let below : c .before .before .before .before .before .before .before .loop .rank < length ss = omega (arith, many, c .before .before .before .before .before .before .loop-test .taken) in
     let long = ranked-length (a .bases .now) (a .ends .now) (a .ranked .now) (s .pre .0 .lent) _ (c .before .before .before .before .before .before .loop-test .taken) in

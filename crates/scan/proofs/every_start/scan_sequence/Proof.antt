@@ -41,19 +41,25 @@ visit-both-requires c κs =
 
 same-length : tie.Need-same-length Inv-loop μ-loop
 same-length c =
-    let s = c .before .before .before .before .before .before .before .before .before .before .before .before .before .before in let a = s .args in let ss = rankedSequences (a .bases .now) (a .ends .now) (a .ranked .now) in
+    let s = c .before .before .before .before .before .before .before .before .before .before .before .before .before .before in
+    let a = s .args in
+    let ss = rankedSequences (a .bases .now) (a .ends .now) (a .ranked .now) in
     c .before .before .before .before .visit-both .kept .0 ∙ starts-length ss (a .ranked .now) (a .read .now) (a .bound) (a .rank) _ _ (a .entries .now) (s .pre .1 .1) _ _ _ _ (c .before .before .before .before .before .before .before .loop .inv)
 
 returns : tie.Need-returns Inv-loop μ-loop
 returns c =
-    let s = c .before .before .before .before .before .before .before .before .before .before .before .before .before .before in let a = s .args in let ss = rankedSequences (a .bases .now) (a .ends .now) (a .ranked .now) in
+    let s = c .before .before .before .before .before .before .before .before .before .before .before .before .before .before in
+    let a = s .args in
+    let ss = rankedSequences (a .bases .now) (a .ends .now) (a .ranked .now) in
     let long = ranked-length (a .bases .now) (a .ends .now) (a .ranked .now) (s .pre .0 .lent) (a .rank) (s .pre .1 .0) in
     let fits : c .before .before .before .before .before .before .before .loop .start + length (a .read .now) ≤ length (getD ss (a .rank) []) = omega (arith, c .before .before .before .before .before .before .loop-test .taken, ap length (c .before .before .before .before .before .before .before .before .ranked-sequence .ensures)) in
     starts-stop ss (a .ranked .now) (a .read .now) (a .bound) (a .rank) _ _ (a .entries .now) (s .pre .1 .1) long _ _ _ _ (c .before .before .before .before .before .before .before .loop .inv) fits _ _ _ (c .before .before .before .before .visit-both .ensures) (omega (arith, c .if1 .taken))
 
 add-start : tie.Need-add-start Inv-loop μ-loop
 add-start c =
-    let s = c .before .before .before .before .before .before .before .before .before .before .before .before .before .before in let a = s .args in let ss = rankedSequences (a .bases .now) (a .ends .now) (a .ranked .now) in
+    let s = c .before .before .before .before .before .before .before .before .before .before .before .before .before .before in
+    let a = s .args in
+    let ss = rankedSequences (a .bases .now) (a .ends .now) (a .ranked .now) in
     let long = ranked-length (a .bases .now) (a .ends .now) (a .ranked .now) (s .pre .0 .lent) (a .rank) (s .pre .1 .0) in
     omega (arith, c .before .before .before .before .before .before .before .loop .inv .upto, long)
 
@@ -62,7 +68,9 @@ loop-less c = omega (arith, c .before .before .before .before .before .before .l
 
 loop-again : tie.Need-loop-again Inv-loop μ-loop
 loop-again c =
-    let s = c .before .before .before .before .before .before .before .before .before .before .before .before .before .before in let a = s .args in let ss = rankedSequences (a .bases .now) (a .ends .now) (a .ranked .now) in
+    let s = c .before .before .before .before .before .before .before .before .before .before .before .before .before .before in
+    let a = s .args in
+    let ss = rankedSequences (a .bases .now) (a .ends .now) (a .ranked .now) in
     let long = ranked-length (a .bases .now) (a .ends .now) (a .ranked .now) (s .pre .0 .lent) (a .rank) (s .pre .1 .0) in
     let fits : c .before .before .before .before .before .before .before .loop .start + length (a .read .now) ≤ length (getD ss (a .rank) []) = omega (arith, c .before .before .before .before .before .before .loop-test .taken, ap length (c .before .before .before .before .before .before .before .before .ranked-sequence .ensures)) in
     starts-more ss (a .ranked .now) (a .read .now) (a .bound) (a .rank) _ _ (a .entries .now) (s .pre .1 .1) long _ _ _ _ (c .before .before .before .before .before .before .before .loop .inv) fits _ _ _ (c .before .before .before .before .visit-both .ensures) (omega (arith, c .if1 .left))

@@ -22,7 +22,9 @@ returns c =
 
 visit-requires-2 : tie.Need-visit-requires-2
 visit-requires-2 c κs =
-    let s = c .before .before .before .before .before .before .before .before .before .before .before .before in let a = s .args in let ss = rankedSequences (a .bases .now) (a .ends .now) (a .ranked .now) in
+    let s = c .before .before .before .before .before .before .before .before .before .before .before .before in
+    let a = s .args in
+    let ss = rankedSequences (a .bases .now) (a .ends .now) (a .ranked .now) in
     (s .pre .0, (fit-other (a .bases .now) (a .ends .now) (a .ranked .now) _ _ _ (s .pre .1 .0), both-second ss (a .ranked .now) (a .read .now) _ _ _ _ (s .pre .1 .1) _ _ _ _ (c .before .before .before .before .before .visit .ensures) (omega (arith, c .before .if1 .left))))
 
 same-length-2 : tie.Need-same-length-2
@@ -30,7 +32,9 @@ same-length-2 c = search needs
 
 returns-2 : tie.Need-returns-2
 returns-2 c =
-    let s = c .before .before .before .before .before .before .before .before .before .before .before .before .before .before .before in let a = s .args in let ss = rankedSequences (a .bases .now) (a .ends .now) (a .ranked .now) in
+    let s = c .before .before .before .before .before .before .before .before .before .before .before .before .before .before .before in
+    let a = s .args in
+    let ss = rankedSequences (a .bases .now) (a .ends .now) (a .ranked .now) in
     both-all ss (a .ranked .now) (a .read .now) _ _ _ _ (s .pre .1 .1) _ _ _ _ (c .before .before .before .before .before .before .before .before .visit .ensures) (omega (arith, c .before .before .before .before .if1 .left)) _ _ _ _ (c .before .before .visit2 .ensures)
 
 pub visit-both-spec : {M : Type 1} → statement M

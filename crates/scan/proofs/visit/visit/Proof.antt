@@ -70,7 +70,9 @@ same-length c = search needs
 
 returns-3 : tie.Need-returns-3
 returns-3 c =
-    let s = c .before .before .before .before .before .before .before .before .before .before .before .before .before .before .before in let a = s .args in let p = place (a .rank) (a .start) (a .strand) in
+    let s = c .before .before .before .before .before .before .before .before .before .before .before .before .before .before .before in
+    let a = s .args in
+    let p = place (a .rank) (a .start) (a .strand) in
     let ss = rankedSequences (a .bases .now) (a .ends .now) (a .ranked .now) in
     let k = place-entered ss (a .ranked .now) (a .read .now) (a .bound) p (a .tally .comparisons) (a .tally .seen) (a .entries .now) (fit-matches (a .bases .now) (a .ends .now) (a .ranked .now) (a .read .now) (s .pre .0) p (s .pre .1 .0) _ (c .before .before .before .before .before .before .before .before .ranked-sequence .ensures) _ (c .before .before .before .before .before .before .before .stands-at .ensures) ∙ not-false _ (c .before .before .before .before .before .before .if1 .left)) (omega (arith, c .before .before .before .before .before .if2 .left)) in
     rw (c .before .before .write-entry .ensures) k

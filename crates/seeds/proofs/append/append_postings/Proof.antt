@@ -17,7 +17,10 @@ abbrev μ-loop : tie.MeasureT-loop
 μ-loop keys₀ ranks₀ positions₀ at sequence q rank n high key₀ i₀ keys ranks positions key i = n - i
 
 returns : tie.Need-returns Inv-loop μ-loop
-returns c = let a = c .before .before .before .before .before .args in let e : 0 ≡ starts (a .q) (a .sequence .now) = omega arith in (omega arith, rw (← e) (stored-none (a .at) (a .keys .now) (a .ranks .now) (a .positions .now)))
+returns c =
+    let a = c .before .before .before .before .before .args in
+    let e : 0 ≡ starts (a .q) (a .sequence .now) = omega arith in
+    (omega arith, rw (← e) (stored-none (a .at) (a .keys .now) (a .ranks .now) (a .positions .now)))
 
 sub-n : tie.Need-sub-n Inv-loop μ-loop
 sub-n c = search needs
@@ -44,7 +47,12 @@ add-put : tie.Need-add-put Inv-loop μ-loop
 add-put c = omega arith
 
 put-requires : tie.Need-put-requires Inv-loop μ-loop
-put-requires c κs = let a = c .before .before .before .before .before .before .before .before .before .before .before .before .before .args in let p = c .before .before .before .before .before .before .before .before .before .before .before .before .before .pre .1 in let n = length (a .sequence .now) - a .q + 1 in let room : Room (a .at) n (a .keys .now) (a .ranks .now) (a .positions .now) = record { keys = omega (arith, p .keys); ranks = omega (arith, p .ranks); positions = omega (arith, p .positions) } in appending-room (a .at) (a .q) (a .rank) (a .sequence .now) (a .keys .now) (a .ranks .now) (a .positions .now) n room _ _ _ _ _ (c .before .before .before .before .before .loop .inv) (c .before .before .before .before .loop-test .taken)
+put-requires c κs =
+    let a = c .before .before .before .before .before .before .before .before .before .before .before .before .before .args in
+    let p = c .before .before .before .before .before .before .before .before .before .before .before .before .before .pre .1 in
+    let n = length (a .sequence .now) - a .q + 1 in
+    let room : Room (a .at) n (a .keys .now) (a .ranks .now) (a .positions .now) = record { keys = omega (arith, p .keys); ranks = omega (arith, p .ranks); positions = omega (arith, p .positions) } in
+    appending-room (a .at) (a .q) (a .rank) (a .sequence .now) (a .keys .now) (a .ranks .now) (a .positions .now) n room _ _ _ _ _ (c .before .before .before .before .before .loop .inv) (c .before .before .before .before .loop-test .taken)
 
 add-i : tie.Need-add-i Inv-loop μ-loop
 add-i c = search needs
@@ -53,7 +61,13 @@ loop-less : tie.Need-loop-less Inv-loop μ-loop
 loop-less c = search needs
 
 loop-again : tie.Need-loop-again Inv-loop μ-loop
-loop-again c = let a = c .before .before .before .before .before .before .before .before .before .before .before .before .before .before .before .before .before .before .before .before .args in let p = c .before .before .before .before .before .before .before .before .before .before .before .before .before .before .before .before .before .before .before .before .pre .1 in let n = length (a .sequence .now) - a .q + 1 in let room : Room (a .at) n (a .keys .now) (a .ranks .now) (a .positions .now) = record { keys = omega (arith, p .keys); ranks = omega (arith, p .ranks); positions = omega (arith, p .positions) } in let e = c .before .before .before .before .before .before .put .ensures in appending-next (a .at) (a .q) (a .rank) (a .sequence .now) (a .keys .now) (a .ranks .now) (a .positions .now) n room _ _ _ _ _ (c .before .before .before .before .before .before .before .before .before .before .before .before .loop .inv) (c .before .before .before .before .before .before .before .before .before .before .before .loop-test .taken) _ _ _ _ (c .before .before .before .before .before .before .before .before .before .before .key-on .ensures) (e .0) (e .1) (e .2)
+loop-again c =
+    let a = c .before .before .before .before .before .before .before .before .before .before .before .before .before .before .before .before .before .before .before .before .args in
+    let p = c .before .before .before .before .before .before .before .before .before .before .before .before .before .before .before .before .before .before .before .before .pre .1 in
+    let n = length (a .sequence .now) - a .q + 1 in
+    let room : Room (a .at) n (a .keys .now) (a .ranks .now) (a .positions .now) = record { keys = omega (arith, p .keys); ranks = omega (arith, p .ranks); positions = omega (arith, p .positions) } in
+    let e = c .before .before .before .before .before .before .put .ensures in
+    appending-next (a .at) (a .q) (a .rank) (a .sequence .now) (a .keys .now) (a .ranks .now) (a .positions .now) n room _ _ _ _ _ (c .before .before .before .before .before .before .before .before .before .before .before .before .loop .inv) (c .before .before .before .before .before .before .before .before .before .before .before .loop-test .taken) _ _ _ _ (c .before .before .before .before .before .before .before .before .before .before .key-on .ensures) (e .0) (e .1) (e .2)
 
 add-result : tie.Need-add-result Inv-loop μ-loop
 add-result c = search needs
@@ -68,7 +82,13 @@ same-length-3 : tie.Need-same-length-3 Inv-loop μ-loop
 same-length-3 c = c .before .loop .inv .lengths .2
 
 returns-2 : tie.Need-returns-2 Inv-loop μ-loop
-returns-2 c = let a = c .before .before .before .before .before .before .before .before .before .args in let p = c .before .before .before .before .before .before .before .before .before .pre .1 in let n = length (a .sequence .now) - a .q + 1 in let room : Room (a .at) n (a .keys .now) (a .ranks .now) (a .positions .now) = record { keys = omega (arith, p .keys); ranks = omega (arith, p .ranks); positions = omega (arith, p .positions) } in let e : n ≡ starts (a .q) (a .sequence .now) = omega arith in (omega arith, rw e at (appending-end (a .at) (a .q) (a .rank) (a .sequence .now) (a .keys .now) (a .ranks .now) (a .positions .now) n room _ _ _ _ _ (c .before .loop .inv) (c .loop-test .left)))
+returns-2 c =
+    let a = c .before .before .before .before .before .before .before .before .before .args in
+    let p = c .before .before .before .before .before .before .before .before .before .pre .1 in
+    let n = length (a .sequence .now) - a .q + 1 in
+    let room : Room (a .at) n (a .keys .now) (a .ranks .now) (a .positions .now) = record { keys = omega (arith, p .keys); ranks = omega (arith, p .ranks); positions = omega (arith, p .positions) } in
+    let e : n ≡ starts (a .q) (a .sequence .now) = omega arith in
+    (omega arith, rw e at (appending-end (a .at) (a .q) (a .rank) (a .sequence .now) (a .keys .now) (a .ranks .now) (a .positions .now) n room _ _ _ _ _ (c .before .loop .inv) (c .loop-test .left)))
 
 pub append-postings-spec : {M : Type 1} → statement M
 append-postings-spec =

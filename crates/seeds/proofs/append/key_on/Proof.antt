@@ -10,7 +10,10 @@ use Rattle.seeds.proofs.append.key_on.Statement.{statement}
 use Rattle.seeds.proofs.append.key_on.Tie as tie
 
 returns : tie.Need-returns
-returns c = let a = c .before .before .args in let e : a .start - 1 ≡ a .start = omega arith in c .before .before .pre .1 .1 ∙ ap (λ k. keyOf (window (a .sequence .now) k (a .q))) e
+returns c =
+    let a = c .before .before .args in
+    let e : a .start - 1 ≡ a .start = omega arith in
+    c .before .before .pre .1 .1 ∙ ap (λ k. keyOf (window (a .sequence .now) k (a .q))) e
 
 sub-key-next : tie.Need-sub-key-next
 sub-key-next c = search needs
@@ -19,7 +22,10 @@ key-next-requires : tie.Need-key-next-requires
 key-next-requires c κs = search needs
 
 returns-2 : tie.Need-returns-2
-returns-2 c = let a = c .before .before .before .args in let e : a .start - 1 + 1 ≡ a .start = omega arith in c .key-next .ensures ∙ ap (λ k. keyOf (window (a .sequence .now) k (a .q))) e
+returns-2 c =
+    let a = c .before .before .before .args in
+    let e : a .start - 1 + 1 ≡ a .start = omega arith in
+    c .key-next .ensures ∙ ap (λ k. keyOf (window (a .sequence .now) k (a .q))) e
 
 pub key-on-spec : {M : Type 1} → statement M
 key-on-spec = tie.close (tie.spec returns sub-key-next key-next-requires returns-2)

@@ -23,7 +23,11 @@ loop-holds : tie.Need-loop-holds Inv-loop μ-loop
 loop-holds c = digits-start _ _ _
 
 mul-key : tie.Need-mul-key Inv-loop μ-loop
-mul-key c = let a = c .before .before .before .before .args in let l = oriented (a .strand) (a .sequence .now) in let s = seed-oriented (a .strand) (a .sequence .now) (a .q) (a .start) (c .before .before .before .before .pre) in omega (arith, digits-room l (a .start) (a .q) _ _ (c .before .loop .inv) s (c .loop-test .taken))
+mul-key c =
+    let a = c .before .before .before .before .args in
+    let l = oriented (a .strand) (a .sequence .now) in
+    let s = seed-oriented (a .strand) (a .sequence .now) (a .q) (a .start) (c .before .before .before .before .pre) in
+    omega (arith, digits-room l (a .start) (a .q) _ _ (c .before .loop .inv) s (c .loop-test .taken))
 
 add-oriented-code : tie.Need-add-oriented-code Inv-loop μ-loop
 add-oriented-code c = omega arith
@@ -32,7 +36,12 @@ oriented-code-requires : tie.Need-oriented-code-requires Inv-loop μ-loop
 oriented-code-requires c κs = c .before .before .before .table .ensures
 
 add-key : tie.Need-add-key Inv-loop μ-loop
-add-key c = let a = c .before .before .before .before .before .before .args in let l = oriented (a .strand) (a .sequence .now) in let s = seed-oriented (a .strand) (a .sequence .now) (a .q) (a .start) (c .before .before .before .before .before .before .pre) in let n = digits-next l (a .start) (a .q) _ _ (c .before .before .before .loop .inv) s (c .before .before .loop-test .taken) _ (c .oriented-code .ensures) in omega (arith, digits-room l (a .start) (a .q) _ _ (c .before .before .before .loop .inv) s (c .before .before .loop-test .taken), c .oriented-code .ensures, code-le (getD l (a .start + c .before .before .before .loop .i) 0))
+add-key c =
+    let a = c .before .before .before .before .before .before .args in
+    let l = oriented (a .strand) (a .sequence .now) in
+    let s = seed-oriented (a .strand) (a .sequence .now) (a .q) (a .start) (c .before .before .before .before .before .before .pre) in
+    let n = digits-next l (a .start) (a .q) _ _ (c .before .before .before .loop .inv) s (c .before .before .loop-test .taken) _ (c .oriented-code .ensures) in
+    omega (arith, digits-room l (a .start) (a .q) _ _ (c .before .before .before .loop .inv) s (c .before .before .loop-test .taken), c .oriented-code .ensures, code-le (getD l (a .start + c .before .before .before .loop .i) 0))
 
 add-i : tie.Need-add-i Inv-loop μ-loop
 add-i c = omega arith
@@ -41,10 +50,18 @@ loop-less : tie.Need-loop-less Inv-loop μ-loop
 loop-less c = omega arith
 
 loop-again : tie.Need-loop-again Inv-loop μ-loop
-loop-again c = let a = c .before .before .before .before .before .before .args in let l = oriented (a .strand) (a .sequence .now) in let s = seed-oriented (a .strand) (a .sequence .now) (a .q) (a .start) (c .before .before .before .before .before .before .pre) in digits-next l (a .start) (a .q) _ _ (c .before .before .before .loop .inv) s (c .before .before .loop-test .taken) _ (c .oriented-code .ensures)
+loop-again c =
+    let a = c .before .before .before .before .before .before .args in
+    let l = oriented (a .strand) (a .sequence .now) in
+    let s = seed-oriented (a .strand) (a .sequence .now) (a .q) (a .start) (c .before .before .before .before .before .before .pre) in
+    digits-next l (a .start) (a .q) _ _ (c .before .before .before .loop .inv) s (c .before .before .loop-test .taken) _ (c .oriented-code .ensures)
 
 returns : tie.Need-returns Inv-loop μ-loop
-returns c = let a = c .before .before .before .before .args in let l = oriented (a .strand) (a .sequence .now) in let s = seed-oriented (a .strand) (a .sequence .now) (a .q) (a .start) (c .before .before .before .before .pre) in digits-end l (a .start) (a .q) _ _ (c .before .loop .inv) s (c .loop-test .left)
+returns c =
+    let a = c .before .before .before .before .args in
+    let l = oriented (a .strand) (a .sequence .now) in
+    let s = seed-oriented (a .strand) (a .sequence .now) (a .q) (a .start) (c .before .before .before .before .pre) in
+    digits-end l (a .start) (a .q) _ _ (c .before .loop .inv) s (c .loop-test .left)
 
 pub key-at-spec : {M : Type 1} → statement M
 key-at-spec =
