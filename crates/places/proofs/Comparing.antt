@@ -17,7 +17,7 @@ use Rattle.lists.proofs.Places.{getD-map}
 use Rattle.lists.proofs.Same.{same-next, differ-next}
 use Rattle.bases.specs.Base.{A, isBase, codeOf, upperOf}
 use Rattle.bases.specs.Read.{oriented}
-use Rattle.bases.proofs.Bytes.{code-upper, codes-decide, letter-capital}
+use Rattle.bases.proofs.Bytes.{code-upper, codes-decide}
 use Rattle.bases.proofs.Turning.{folded-turned, letters-turned, length-oriented}
 use Rattle.places.specs.Place.{folded, Laid, standsTo}
 
@@ -64,10 +64,6 @@ module _ (s : List ℕ) (start : ℕ) (read : List ℕ) (strand : ℕ) where
 
     base-o : isBase (upperOf y) ≡ true
     base-o = ap isBase (sym at-o) ∙ every-at isBase 0 (oriented strand (folded read)) (ap (every isBase) (oriented-folded strand read) ∙ oriented-letters strand read (laid .letters)) i inside-o
-
-    pub sequence-letter : isBase (upperOf (getD s (start + i) 0)) ≡ true
-    unfolding x
-    sequence-letter = letter-capital x base-s
 
     pub compared-next : standsTo (i + 1) s start read strand ≡ (standsTo i s start read strand && eqb (codeOf (getD s (start + i) 0)) (codeOf (getD (oriented strand read) i 0)))
     unfolding x y

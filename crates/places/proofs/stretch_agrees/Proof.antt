@@ -2,11 +2,13 @@
 -- Assumes nothing.
 use mathlib.Core.Path.{_≡_, sym, ap, ap₂, _∙_}
 use mathlib.Core.Bool.{_&&_}
-use Prim.Native.Nat.{_-_, _<_, _≤_}
+use Prim.Native.Nat.{_-_, _≤_}
 use native.Mathlib.Omega.{arith}
-use lib.ListN.{length}
+use Rattle.lists.proofs.Every.{every-at}
+use Rattle.bases.specs.Base.{isBase}
+use Rattle.bases.proofs.Bytes.{letter-capital}
 use Rattle.places.specs.Place.{standsTo}
-use Rattle.places.proofs.Comparing.{sequence-letter, compared-next}
+use Rattle.places.proofs.Comparing.{compared-next}
 use Rattle.places.proofs.stretch_agrees.Statement.{statement}
 use Rattle.places.proofs.stretch_agrees.Tie as tie
 
@@ -27,8 +29,8 @@ shared-slice-read-oriented-agrees c = omega (arith, c .before .loop-test .taken,
 
 oriented-agrees-requires : tie.Need-oriented-agrees-requires Inv-loop μ-loop
 oriented-agrees-requires c κs =
-    let s = c .before .before .before .before .before in let a = s .args in let h : c .before .before .loop .i < length (a .read .now) = omega (arith, c .before .loop-test .taken, s .pre .1 .1 .0) in
-    (h, (sequence-letter (a .sequence .now) (a .start) (a .read .now) (a .strand) (s .pre .0) (c .before .before .loop .i) h, s .pre .0 .letters))
+    let s = c .before .before .before .before .before in
+    (omega (arith, c .before .loop-test .taken, s .pre .1 .1 .0), (letter-capital _ (every-at isBase 0 (s .args .sequence .now) (s .pre .0 .capitals) _ (omega (arith, c .before .loop-test .taken, s .pre .0 .fits, s .pre .1 .1 .0))), s .pre .0 .letters))
 
 add-i : tie.Need-add-i Inv-loop μ-loop
 add-i c = omega arith
