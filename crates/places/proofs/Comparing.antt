@@ -15,7 +15,7 @@ use Rattle.lists.specs.Cut.{window}
 use Rattle.lists.proofs.Every.{every-at}
 use Rattle.lists.proofs.Places.{getD-map}
 use Rattle.lists.proofs.Same.{same-next, differ-next}
-use Rattle.bases.specs.Base.{A, isBase, codeOf, upperOf}
+use Rattle.bases.specs.Base.{isBase, codeOf, upperOf}
 use Rattle.bases.specs.Read.{oriented}
 use Rattle.bases.proofs.Bytes.{code-upper, codes-decide}
 use Rattle.bases.proofs.Turning.{folded-turned, letters-turned, length-oriented}
