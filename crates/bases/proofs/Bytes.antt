@@ -8,10 +8,10 @@ use native.Mathlib.Omega.{arith}
 use lib.Dec.{ltb, leb, eqb}
 use lib.ListN.{getD}
 use borrow.Author.Tests.{eqb-true, eqb-false, eq-eqb, ne-eqb, ltb-true, ltb-false, leb-true, le-leb, lt-leb}
-use Rattle.lists.specs.Keep.{every}
+use Rattle.lists.specs.Filter.{every}
 use Rattle.lists.proofs.Cases.{by-test, clash, same-test, and-true, beq-true, eq-beq}
 use Rattle.lists.proofs.Below.{passesBelow, passes-at, tabulate, tabulate-at}
-use Rattle.bases.specs.Base.{A, C, G, T, beside, codes, complements, codeOf, complementOf, upperOf, isBase, mark}
+use Rattle.bases.specs.Base.{A, C, G, T, beside, codes, complements, codeOf, complementOf, upperOf, isCapital, mark}
 
 -- ---- the table
 
@@ -51,8 +51,8 @@ upper-above : (b : ℕ) → 256 ≤ b → upperOf b ≡ b
 unfolding upperOf
 upper-above b h = rw (lt-leb b 122 (omega arith)) (by-test (leb 97 b) (λ e. rw e) (λ e. rw e))
 
-base-above : (b : ℕ) → 256 ≤ b → isBase b ≡ false
-unfolding isBase
+base-above : (b : ℕ) → 256 ≤ b → isCapital b ≡ false
+unfolding isCapital
 base-above b h = simp (ne-eqb b 65 (λ e. omega arith), ne-eqb b 67 (λ e. omega arith), ne-eqb b 71 (λ e. omega arith), ne-eqb b 84 (λ e. omega arith))
 
 -- ---- the laws
@@ -92,25 +92,25 @@ case-kept b =
     (λ b h. eq-beq _ _ (ap (λ n. eqb (upperOf n) n) (complement-above b h))) b)
 
 -- a byte is a letter of ACGT in either case exactly if its code is not the mark
-pub letter-code : (b : ℕ) → isBase (upperOf b) ≡ not (eqb (codeOf b) mark)
-unfolding isBase upperOf codeOf
+pub letter-code : (b : ℕ) → isCapital (upperOf b) ≡ not (eqb (codeOf b) mark)
+unfolding isCapital upperOf codeOf
 letter-code b =
     beq-true _ _
-    (everywhere (λ b. Bool·beq (isBase (upperOf b)) (not (eqb (codeOf b) mark))) refl
-    (λ b h. eq-beq _ _ (ap isBase (upper-above b h) ∙ base-above b h ∙ sym (ap (λ n. not (eqb n mark)) (code-above b h)))) b)
+    (everywhere (λ b. Bool·beq (isCapital (upperOf b)) (not (eqb (codeOf b) mark))) refl
+    (λ b h. eq-beq _ _ (ap isCapital (upper-above b h) ∙ base-above b h ∙ sym (ap (λ n. not (eqb n mark)) (code-above b h)))) b)
 
 -- a capital is such a letter
-pub letter-capital : (b : ℕ) → isBase b ≡ true → isBase (upperOf b) ≡ true
-unfolding isBase upperOf
-letter-capital b t = rw t at (everywhere (λ b. not (isBase b) || isBase (upperOf b)) refl (λ b h. rw (base-above b h)) b)
+pub letter-capital : (b : ℕ) → isCapital b ≡ true → isCapital (upperOf b) ≡ true
+unfolding isCapital upperOf
+letter-capital b t = rw t at (everywhere (λ b. not (isCapital b) || isCapital (upperOf b)) refl (λ b h. rw (base-above b h)) b)
 
 -- and its complement is one exactly if it is
-pub letter-complement : (b : ℕ) → isBase (upperOf (complementOf b)) ≡ isBase (upperOf b)
-unfolding isBase upperOf complementOf
+pub letter-complement : (b : ℕ) → isCapital (upperOf (complementOf b)) ≡ isCapital (upperOf b)
+unfolding isCapital upperOf complementOf
 letter-complement b =
     beq-true _ _
-    (everywhere (λ b. Bool·beq (isBase (upperOf (complementOf b))) (isBase (upperOf b))) refl
-    (λ b h. eq-beq _ _ (ap (λ n. isBase (upperOf n)) (complement-above b h))) b)
+    (everywhere (λ b. Bool·beq (isCapital (upperOf (complementOf b))) (isCapital (upperOf b))) refl
+    (λ b h. eq-beq _ _ (ap (λ n. isCapital (upperOf n)) (complement-above b h))) b)
 
 -- a code is at most the mark
 pub code-le : (b : ℕ) → codeOf b ≤ mark
@@ -124,12 +124,12 @@ code-le b =
 letterOf : ℕ → ℕ
 letterOf n = beside ((0, A) ∷ (1, C) ∷ (2, G) ∷ (3, T) ∷ []) 0 n
 
-capital-of : (b : ℕ) → isBase b ≡ true → b ≡ letterOf (codeOf b)
-unfolding isBase codeOf letterOf
-capital-of b t = eqb-true b (letterOf (codeOf b)) (rw t at (everywhere (λ b. not (isBase b) || eqb b (letterOf (codeOf b))) refl (λ b h. rw (base-above b h)) b))
+capital-of : (b : ℕ) → isCapital b ≡ true → b ≡ letterOf (codeOf b)
+unfolding isCapital codeOf letterOf
+capital-of b t = eqb-true b (letterOf (codeOf b)) (rw t at (everywhere (λ b. not (isCapital b) || eqb b (letterOf (codeOf b))) refl (λ b h. rw (base-above b h)) b))
 
 -- capitals are one letter exactly if they have one code
-pub codes-decide : (x y : ℕ) → isBase x ≡ true → isBase y ≡ true → eqb x y ≡ eqb (codeOf x) (codeOf y)
+pub codes-decide : (x y : ℕ) → isCapital x ≡ true → isCapital y ≡ true → eqb x y ≡ eqb (codeOf x) (codeOf y)
 codes-decide x y hx hy =
     same-test (λ e. eq-eqb _ _ (ap codeOf (eqb-true x y e))) (λ e. eq-eqb x y (capital-of x hx ∙ ap letterOf (eqb-true _ _ e) ∙ sym (capital-of y hy)))
 
@@ -139,21 +139,21 @@ codes-decide x y hx hy =
 bitsOf : ℕ → ℕ
 bitsOf n = beside ((0, 1) ∷ (1, 3) ∷ (2, 7) ∷ (3, 20) ∷ []) 0 n
 
-bits-code : (b : ℕ) → isBase (upperOf b) ≡ true → b % 32 ≡ bitsOf (codeOf b)
-unfolding isBase upperOf codeOf bitsOf
+bits-code : (b : ℕ) → isCapital (upperOf b) ≡ true → b % 32 ≡ bitsOf (codeOf b)
+unfolding isCapital upperOf codeOf bitsOf
 bits-code b t =
     eqb-true (b % 32) (bitsOf (codeOf b))
-    (rw t at (everywhere (λ b. not (isBase (upperOf b)) || eqb (b % 32) (bitsOf (codeOf b))) refl (λ b h. rw (upper-above b h, base-above b h)) b))
+    (rw t at (everywhere (λ b. not (isCapital (upperOf b)) || eqb (b % 32) (bitsOf (codeOf b))) refl (λ b h. rw (upper-above b h, base-above b h)) b))
 
 -- a letter's code is less than the mark
-pub letter-low : (b : ℕ) → isBase (upperOf b) ≡ true → codeOf b < 4
+pub letter-low : (b : ℕ) → isCapital (upperOf b) ≡ true → codeOf b < 4
 letter-low b t = by-test (eqb (codeOf b) mark) (λ e. clash t (letter-code b ∙ ap not e)) (λ e. omega (arith, code-le b, eqb-false (codeOf b) mark e))
 
 -- a test of two codes that passes at each pair of them
 codes-pass : (test : ℕ → ℕ → Bool) → passesBelow (λ m. passesBelow (test m) 4) 4 ≡ true → (m n : ℕ) → m < 4 → n < 4 → test m n ≡ true
 codes-pass test t m n hm hn = passes-at (test m) 4 (passes-at (λ m. passesBelow (test m) 4) 4 t m hm) n hn
 
-module _ (x y : ℕ) (hx : isBase (upperOf x) ≡ true) (hy : isBase (upperOf y) ≡ true) where
+module _ (x y : ℕ) (hx : isCapital (upperOf x) ≡ true) (hy : isCapital (upperOf y) ≡ true) where
   -- letters with the same bits have one code
   pub bits-same : eqb (x % 32) (y % 32) ≡ eqb (codeOf x) (codeOf y)
   unfolding bitsOf

@@ -9,12 +9,12 @@ use native.Mathlib.Omega.{arith}
 use lib.ListN.{length, getD, length-map, length-reverse, List·getD-map, List·getD-eq-default}
 use lib.Dec.{eqb, leb, ltb}
 use borrow.Author.Tests.{eq-eqb, ne-eqb}
-use Rattle.lists.specs.Keep.{every}
+use Rattle.lists.specs.Filter.{every}
 use Rattle.lists.proofs.Cases.{clash}
 use Rattle.lists.proofs.Every.{every-at}
 use Rattle.lists.proofs.Places.{getD-map}
 use Rattle.lists.proofs.Reverse.{getD-reverse, map-reverse, every-reverse}
-use Rattle.bases.specs.Base.{codeOf, complementOf, upperOf, isBase, mark}
+use Rattle.bases.specs.Base.{codeOf, complementOf, upperOf, isCapital, mark}
 use Rattle.bases.specs.Read.{Qualities, absent, given, Read, reverseComplement, reversed, turned, oriented}
 use Rattle.bases.specs.Eligibility.{Verdict, refused, ineligible, eligible, _then_, emptyTest, lengthTest, qualityTest, qualitiesTest, basesTest, eligibility}
 use Rattle.bases.proofs.Bytes.{bits-same, bits-paired, complement-twice, code-complement, upper-complement, case-kept, letter-complement}
@@ -84,10 +84,10 @@ on-minus (suc s) bs i ne h = ap codeOf (ap (λ n. complementOf (getD bs n 0)) (o
 
 -- ---- a letter against base i on a strand
 
-letters-at : (bs : List ℕ) → every isBase (map upperOf bs) ≡ true → (i : ℕ) → i < length bs → isBase (upperOf (getD bs i 0)) ≡ true
-letters-at bs t i h = ap isBase (sym (getD-map upperOf 0 0 bs i h)) ∙ every-at isBase 0 (map upperOf bs) t i (rw length-map h)
+letters-at : (bs : List ℕ) → every isCapital (map upperOf bs) ≡ true → (i : ℕ) → i < length bs → isCapital (upperOf (getD bs i 0)) ≡ true
+letters-at bs t i h = ap isCapital (sym (getD-map upperOf 0 0 bs i h)) ∙ every-at isCapital 0 (map upperOf bs) t i (rw length-map h)
 
-module _ (x s : ℕ) (bs : List ℕ) (i : ℕ) (h : i < length bs) (letter : isBase (upperOf x) ≡ true) (letters : every isBase (map upperOf bs) ≡ true) where
+module _ (x s : ℕ) (bs : List ℕ) (i : ℕ) (h : i < length bs) (letter : isCapital (upperOf x) ≡ true) (letters : every isCapital (map upperOf bs) ≡ true) where
   pub on-plus-agrees : s ≡ 0 → eqb (x % 32) (getD bs i 0 % 32) ≡ eqb (codeOf x) (codeOf (getD (oriented s bs) i 0))
   on-plus-agrees e = bits-same x (getD bs i 0) letter (letters-at bs letters i h) ∙ ap (eqb (codeOf x)) (on-plus s bs i e)
 
@@ -104,11 +104,11 @@ second-sum n ne = rw (ne-eqb n 21 ne)
 -- ---- eligibility
 
 -- the letters of a turned read are letters
-pub letters-turned : (bs : List ℕ) → every isBase (map upperOf (reverseComplement bs)) ≡ every isBase (map upperOf bs)
+pub letters-turned : (bs : List ℕ) → every isCapital (map upperOf (reverseComplement bs)) ≡ every isCapital (map upperOf bs)
 unfolding reverseComplement
-letters-turned bs = ap (every isBase) (map-reverse upperOf (map complementOf bs)) ∙ every-reverse isBase (map upperOf (map complementOf bs)) ∙ go bs
+letters-turned bs = ap (every isCapital) (map-reverse upperOf (map complementOf bs)) ∙ every-reverse isCapital (map upperOf (map complementOf bs)) ∙ go bs
   where
-    go : (l : List ℕ) → every isBase (map upperOf (map complementOf l)) ≡ every isBase (map upperOf l)
+    go : (l : List ℕ) → every isCapital (map upperOf (map complementOf l)) ≡ every isCapital (map upperOf l)
     go [] = refl
     go (b ∷ l) = ap₂ {C = Bool} (λ x y. x && y) (letter-complement b) (go l)
 

@@ -12,8 +12,8 @@ use lib.Dec.{ltb, leb, eqb}
 use borrow.Author.Tests.{le-leb, lt-leb, lt-ltb, le-ltb, eq-eqb, ne-eqb}
 use types.Run.{OneOf, miss}
 use denote.Enum.Declared.{tagOf}
-use Rattle.lists.specs.Keep.{every}
-use Rattle.bases.specs.Base.{isBase, upperOf, codeOf, mark}
+use Rattle.lists.specs.Filter.{every}
+use Rattle.bases.specs.Base.{isCapital, upperOf, codeOf, mark}
 use Rattle.bases.specs.Read.{lent, readOf}
 use Rattle.bases.specs.Eligibility.{Verdict, refused, ineligible, eligible, verdictOf, _then_, emptyTest, qualityTest, qualitiesTest, givenTest, basesTest, eligibility}
 use Rattle.bases.specs.declared.eligibility.Eligibility.{Eligibility}
@@ -65,10 +65,10 @@ module _ (floor offset : ℕ) (qs : List ℕ) (i : ℕ) (h : i < length qs) (e :
 
 -- whether the bases from i on are all letters
 abbrev pub letters : List ℕ → Bool
-letters bs = every isBase (map upperOf bs)
+letters bs = every isCapital (map upperOf bs)
 
 module _ (bs : List ℕ) (i : ℕ) (h : i < length bs) where
-  next-letter : letters (drop i bs) ≡ (isBase (upperOf (getD bs i 0)) && letters (drop (i + 1) bs))
+  next-letter : letters (drop i bs) ≡ (isCapital (upperOf (getD bs i 0)) && letters (drop (i + 1) bs))
   next-letter = rw (add-one, drop-cons bs i 0)
 
   pub no-letter : codeOf (getD bs i 0) ≡ mark → letters (drop i bs) ≡ false

@@ -63,5 +63,5 @@ unfoldable pub upperOf : ℕ → ℕ
 upperOf b = cond (leb 97 b && leb b 122) (b - 32) b
 
 -- the byte is one of the capitals A, C, G, T
-unfoldable pub isBase : ℕ → Bool
-isBase b = eqb b A || eqb b C || eqb b G || eqb b T
+unfoldable pub isCapital : ℕ → Bool
+isCapital b = eqb b A || eqb b C || eqb b G || eqb b T

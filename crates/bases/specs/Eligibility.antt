@@ -4,8 +4,8 @@ use mathlib.Core.List.{List, [], _∷_, map}
 use Prim.Native.Nat.{ℕ, _-_}
 use lib.ListN.{length}
 use lib.Dec.{ltb, leb, eqb}
-use Rattle.lists.specs.Keep.{every}
-use Rattle.bases.specs.Base.{isBase, upperOf}
+use Rattle.lists.specs.Filter.{every}
+use Rattle.bases.specs.Base.{isCapital, upperOf}
 use Rattle.bases.specs.Read.{Qualities, absent, given, Read}
 use Rattle.bases.specs.declared.eligibility.Eligibility.{Eligibility}
 use Rattle.bases.specs.declared.eligibility.Eligibility.the-variants.{EmptyRead, QualityLength, PhredByte, Ineligible, Eligible}
@@ -56,7 +56,7 @@ givenTest floor offset (given qs) bs = lengthTest qs bs then qualitiesTest floor
 
 -- folded to upper case, each base is one of A, C, G, T
 abbrev pub basesTest : List ℕ → Verdict
-basesTest bs = cond (every isBase (map upperOf bs)) eligible ineligible
+basesTest bs = cond (every isCapital (map upperOf bs)) eligible ineligible
 
 -- the verdict on a read, for a quality floor and the offset of the quality bytes
 unfoldable pub eligibility : ℕ → ℕ → Read → Verdict

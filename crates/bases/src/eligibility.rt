@@ -1,8 +1,9 @@
 // Which reads are eligible for placement (`eligible_normalized_read` of the Rust, without its copy).
 ghost use mathlib.Core.Path.{_≡_};
 ghost use mathlib.Core.List.{map};
-ghost use Rattle.lists.specs.Keep.{every};
-ghost use Rattle.bases.specs.Base.{isBase, upperOf};
+ghost use Rattle.lists.specs.Filter.{every};
+ghost use Rattle.lists.specs.Slice.{old};
+ghost use Rattle.bases.specs.Base.{isCapital, upperOf};
 ghost use Rattle.bases.specs.Read.{lent, readOf};
 ghost use Rattle.bases.specs.Eligibility.{verdictOf, qualityTest, qualitiesTest, givenTest, eligibility};
 use crate::base::MARK;
@@ -36,7 +37,7 @@ fn judge_quality(q: u8, floor: u8, offset: u8) -> Eligibility
 
 // What the qualities decide, from the left: the first byte that is outside or low.
 fn judge_qualities(qualities: &[u8], floor: u8, offset: u8) -> Eligibility
-    ensures { λ r. ⌜ verdictOf r ≡ qualitiesTest floor offset (now (qualities .entry)) ⌝ }
+    ensures { λ r. ⌜ verdictOf r ≡ qualitiesTest floor offset (old qualities) ⌝ }
 {
     let mut i = 0;
     while i < qualities.len() {
@@ -51,7 +52,7 @@ fn judge_qualities(qualities: &[u8], floor: u8, offset: u8) -> Eligibility
 
 // Whether every byte is a letter of ACGT in either case.
 fn all_bases(bases: &[u8]) -> bool
-    ensures { λ r. ⌜ r ≡ every isBase (map upperOf (now (bases .entry))) ⌝ }
+    ensures { λ r. ⌜ r ≡ every isCapital (map upperOf (old bases)) ⌝ }
 {
     let table = table();
     let mut i = 0;
@@ -66,7 +67,7 @@ fn all_bases(bases: &[u8]) -> bool
 
 // What the qualities decide where they are present.
 fn judge_given(bases: &[u8], qualities: &[u8], present: bool, floor: u8, offset: u8) -> Eligibility
-    ensures { λ r. ⌜ verdictOf r ≡ givenTest floor offset (lent present (now (qualities .entry))) (now (bases .entry)) ⌝ }
+    ensures { λ r. ⌜ verdictOf r ≡ givenTest floor offset (lent present (old qualities)) (old bases) ⌝ }
 {
     if !present {
         return Eligibility::Eligible;
@@ -85,7 +86,7 @@ pub fn judge_read(
     floor: u8,
     offset: u8,
 ) -> Eligibility
-    ensures { λ r. ⌜ verdictOf r ≡ eligibility floor offset (readOf (now (bases .entry)) present (now (qualities .entry))) ⌝ }
+    ensures { λ r. ⌜ verdictOf r ≡ eligibility floor offset (readOf (old bases) present (old qualities)) ⌝ }
 {
     if bases.len() == 0 {
         return Eligibility::EmptyRead;

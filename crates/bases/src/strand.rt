@@ -5,8 +5,9 @@ ghost use mathlib.Core.List.{map};
 ghost use Prim.Native.Nat.{_<_};
 ghost use lib.ListN.{length, getD};
 ghost use lib.Dec.{eqb};
-ghost use Rattle.lists.specs.Keep.{every};
-ghost use Rattle.bases.specs.Base.{codeOf, upperOf, isBase, Table};
+ghost use Rattle.lists.specs.Filter.{every};
+ghost use Rattle.lists.specs.Slice.{old};
+ghost use Rattle.bases.specs.Base.{codeOf, upperOf, isCapital, Table};
 ghost use Rattle.bases.specs.Read.{oriented};
 use crate::base::MARK;
 use crate::base::code_in;
@@ -15,7 +16,7 @@ use crate::base::complement_in;
 // The code of base i of the bases as they lie on a strand, 0 for '+' and any other number for '-'; the mark past their end.
 pub fn oriented_code(table: &[u16; 256], bases: &[u8], strand: u64, i: usize) -> u64
     requires { ⌜ Table (now table) ⌝ }
-    ensures { λ r. ⌜ r ≡ codeOf (getD (oriented strand (now (bases .entry))) i 0) ⌝ }
+    ensures { λ r. ⌜ r ≡ codeOf (getD (oriented strand (old bases)) i 0) ⌝ }
 {
     if bases.len() <= i {
         return MARK;
@@ -30,8 +31,8 @@ pub fn oriented_code(table: &[u16; 256], bases: &[u8], strand: u64, i: usize) ->
 // Whether a letter is base i of the bases as they lie on a strand, in either case. The last five bits of a letter are 1, 3,
 // 7 and 20 for A, C, G and T; of these only complements have the sum 21 or 10.
 pub fn oriented_agrees(letter: u8, bases: &[u8], strand: u64, i: usize) -> bool
-    requires { ⌜ (i < length (now bases)) × ((isBase (upperOf letter) ≡ true) × (every isBase (map upperOf (now bases)) ≡ true)) ⌝ }
-    ensures { λ r. ⌜ r ≡ eqb (codeOf letter) (codeOf (getD (oriented strand (now (bases .entry))) i 0)) ⌝ }
+    requires { ⌜ (i < length (now bases)) × ((isCapital (upperOf letter) ≡ true) × (every isCapital (map upperOf (now bases)) ≡ true)) ⌝ }
+    ensures { λ r. ⌜ r ≡ eqb (codeOf letter) (codeOf (getD (oriented strand (old bases)) i 0)) ⌝ }
 {
     if strand != 0 {
         let sum = letter % 32 + bases[bases.len() - 1 - i] % 32;

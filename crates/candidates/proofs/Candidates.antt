@@ -11,7 +11,7 @@ use lib.ListN.{length, getD, take, drop, length-map}
 use lib.Seq.{take-take, drop-drop}
 use lib.Dec.{eqb, leb, ltb}
 use borrow.Author.Tests.{eqb-true, eq-eqb, leb-true, le-leb, ltb-true, lt-ltb, ltb-false}
-use Rattle.lists.specs.Keep.{keep}
+use Rattle.lists.specs.Filter.{filter}
 use Rattle.lists.specs.Member.{_∈_}
 use Rattle.lists.specs.Order.{Ascending}
 use Rattle.lists.specs.Sort.{merge}
@@ -19,22 +19,22 @@ use Rattle.lists.specs.Limit.{goOn, stopped}
 use Rattle.lists.specs.Cut.{window}
 use Rattle.lists.proofs.Cases.{by-test, and-true}
 use Rattle.lists.proofs.Member.{∈-map, map-∈}
-use Rattle.lists.proofs.Keep.{∈-keep, keep-∈}
-use Rattle.lists.proofs.Order.{ascending-keep, ascending-map, ascending-apart}
+use Rattle.lists.proofs.Filter.{∈-filter, filter-∈}
+use Rattle.lists.proofs.Order.{ascending-filter, ascending-map, ascending-apart}
 use Rattle.lists.proofs.Sort.{merge-ascending, ∈-merge, merge-∈}
 use Rattle.lists.proofs.Same.{same-true}
-use Rattle.lists.proofs.Part.{part-keep, part-stopped}
+use Rattle.lists.proofs.Part.{part-filter, part-stopped}
 use Rattle.lists.proofs.Triple.{Before, before-test, test-before}
-use Rattle.catalogue.specs.Ordered.{numbers}
-use Rattle.catalogue.proofs.Merging.{numbers-∈}
+use Rattle.names.specs.Ordered.{numbers}
+use Rattle.names.proofs.Merging.{numbers-∈}
 use Rattle.bases.specs.Base.{upperOf}
 use Rattle.bases.specs.Read.{oriented}
 use Rattle.bases.proofs.Bytes.{code-upper}
 use Rattle.columns.specs.Posting.{Posting, posting, earlier}
 use Rattle.seeds.specs.Key.{keyOf}
 use Rattle.seeds.specs.Seeds.{starts}
-use Rattle.postings.specs.Index.{indexOf, isSeed}
-use Rattle.postings.proofs.Indexing.{index-ascending, index-∈-seed, seed-∈-index}
+use Rattle.index.specs.Index.{indexOf, isSeed}
+use Rattle.index.proofs.Indexing.{index-ascending, index-∈-seed, seed-∈-index}
 use Rattle.places.specs.Place.{Place, Fits, place, triple, before, folded, places, matches, groups}
 use Rattle.places.proofs.Comparing.{oriented-folded}
 use Rattle.places.proofs.Placing.{before-order, before-total, place-eq, places-∈, ∈-places, places-ascending}
@@ -115,10 +115,10 @@ module _ (q : ℕ) (ss : List (List ℕ)) (read : List ℕ) where
       pub after : o ≤ p .position
       pub within : p .position - o + length read ≤ length (getD ss (p .rank) [])
 
-    hit-∈ : (p : Posting) → p ∈ keep (lies ss (length read) o) (seedHits q ss read strand o) → Hit p
+    hit-∈ : (p : Posting) → p ∈ filter (lies ss (length read) o) (seedHits q ss read strand o) → Hit p
     hit-∈ p m =
-        let a = keep-∈ (lies ss (length read) o) p (seedHits q ss read strand o) m in
-        let b = keep-∈ (λ (x : Posting). eqb (x .key) (keyOf (window (oriented strand read) o q))) p (indexOf q ss) (a .0) in
+        let a = filter-∈ (lies ss (length read) o) p (seedHits q ss read strand o) m in
+        let b = filter-∈ (λ (x : Posting). eqb (x .key) (keyOf (window (oriented strand read) o q))) p (indexOf q ss) (a .0) in
         let c = and-true (leb o (p .position)) (leb (p .position - o + length read) (length (getD ss (p .rank) []))) (a .1) in
         record {
           seed = index-∈-seed q ss p (b .0);
@@ -127,29 +127,29 @@ module _ (q : ℕ) (ss : List (List ℕ)) (read : List ℕ) where
           within = leb-true (p .position - o + length read) (length (getD ss (p .rank) [])) (c .1);
         }
 
-    ∈-hit : (p : Posting) → Hit p → p ∈ keep (lies ss (length read) o) (seedHits q ss read strand o)
+    ∈-hit : (p : Posting) → Hit p → p ∈ filter (lies ss (length read) o) (seedHits q ss read strand o)
     ∈-hit p h =
-        ∈-keep (lies ss (length read) o) p (seedHits q ss read strand o)
-        (∈-keep (λ (x : Posting). eqb (x .key) (keyOf (window (oriented strand read) o q))) p (indexOf q ss) (seed-∈-index q ss p (h .seed)) (eq-eqb (p .key) (keyOf (window (oriented strand read) o q)) (h .keyed)))
+        ∈-filter (lies ss (length read) o) p (seedHits q ss read strand o)
+        (∈-filter (λ (x : Posting). eqb (x .key) (keyOf (window (oriented strand read) o q))) p (indexOf q ss) (seed-∈-index q ss p (h .seed)) (eq-eqb (p .key) (keyOf (window (oriented strand read) o q)) (h .keyed)))
         (rw (le-leb o (p .position) (h .after), le-leb (p .position - o + length read) (length (getD ss (p .rank) [])) (h .within)))
 
     pub candidates-ascending : Ascending before (candidatesAt q ss read strand o)
     candidates-ascending =
-        ascending-map earlier before (candidate strand o) (keep (lies ss (length read) o) (seedHits q ss read strand o)) order
-        (ascending-keep earlier (lies ss (length read) o) (seedHits q ss read strand o) (ascending-keep earlier (λ (x : Posting). eqb (x .key) (keyOf (window (oriented strand read) o q))) (indexOf q ss) (index-ascending q ss)))
+        ascending-map earlier before (candidate strand o) (filter (lies ss (length read) o) (seedHits q ss read strand o)) order
+        (ascending-filter earlier (lies ss (length read) o) (seedHits q ss read strand o) (ascending-filter earlier (λ (x : Posting). eqb (x .key) (keyOf (window (oriented strand read) o q))) (indexOf q ss) (index-ascending q ss)))
       where
         by : (x y : Posting) → Hit x → Hit y → Before (x .key, x .rank, x .position) (y .key, y .rank, y .position) → before (candidate strand o x) (candidate strand o y) ≡ true
         by x y h k (inl l) = absurd (omega (arith, h .keyed, k .keyed))
         by x y h k (inr (e, inl l)) = before-test (triple (candidate strand o x)) (triple (candidate strand o y)) (inl l)
         by x y h k (inr (e, inr (f, l))) = before-test (triple (candidate strand o x)) (triple (candidate strand o y)) (inr (f, inl (omega (arith, h .after, k .after))))
 
-        order : (x y : Posting) → x ∈ keep (lies ss (length read) o) (seedHits q ss read strand o) → y ∈ keep (lies ss (length read) o) (seedHits q ss read strand o) → earlier x y ≡ true → before (candidate strand o x) (candidate strand o y) ≡ true
+        order : (x y : Posting) → x ∈ filter (lies ss (length read) o) (seedHits q ss read strand o) → y ∈ filter (lies ss (length read) o) (seedHits q ss read strand o) → earlier x y ≡ true → before (candidate strand o x) (candidate strand o y) ≡ true
         order x y m k e = by x y (hit-∈ x m) (hit-∈ y k) (test-before (x .key, x .rank, x .position) (y .key, y .rank, y .position) e)
 
     -- a candidate is a fitting place of its strand
     candidates-∈ : strand < 2 → (z : Place) → z ∈ candidatesAt q ss read strand o → (z .strand ≡ strand) × Fits (length read) ss z
     candidates-∈ l z m =
-        let r = map-∈ (candidate strand o) z (keep (lies ss (length read) o) (seedHits q ss read strand o)) m in
+        let r = map-∈ (candidate strand o) z (filter (lies ss (length read) o) (seedHits q ss read strand o)) m in
         let h = hit-∈ (r .0) (r .1) in
         let a = and-true (ltb (r .0 .rank) (length ss) && ltb (r .0 .position) (starts q (getD ss (r .0 .rank) []))) (eqb (r .0 .key) (keyOf (window (getD ss (r .0 .rank) []) (r .0 .position) q))) (h .seed) in
         let b = and-true (ltb (r .0 .rank) (length ss)) (ltb (r .0 .position) (starts q (getD ss (r .0 .rank) []))) (a .0) in
@@ -158,7 +158,7 @@ module _ (q : ℕ) (ss : List (List ℕ)) (read : List ℕ) where
     -- a match on the strand is a candidate
     ∈-candidates : 1 ≤ q → o + q ≤ length read → (z : Place) → Fits (length read) ss z → z .strand ≡ strand → matches ss read z ≡ true → z ∈ candidatesAt q ss read strand o
     unfolding matches
-    ∈-candidates some room z f e m = rw pz (∈-map (candidate strand o) x (keep (lies ss (length read) o) (seedHits q ss read strand o)) (∈-hit x hit))
+    ∈-candidates some room z f e m = rw pz (∈-map (candidate strand o) x (filter (lies ss (length read) o) (seedHits q ss read strand o)) (∈-hit x hit))
       where
         s : List ℕ
         s = getD ss (z .rank) []
@@ -219,9 +219,9 @@ module _ (q : ℕ) (ss : List (List ℕ)) (read : List ℕ) where
         side (suc (suc d)) e f h = absurd (omega (arith, f .stranded))
 
     -- the matches of the compared list are the groups of the read
-    pub comparable-groups : keep (matches ss read) (comparable q ss read) ≡ groups ss read
+    pub comparable-groups : filter (matches ss read) (comparable q ss read) ≡ groups ss read
     unfolding groups
-    comparable-groups = part-keep before before-order (matches ss read) (places (length read) ss) (comparable q ss read) comparable-ascending (places-ascending (length read) ss) comparable-∈ ∈-comparable
+    comparable-groups = part-filter before before-order (matches ss read) (places (length read) ss) (comparable q ss read) comparable-ascending (places-ascending (length read) ss) comparable-∈ ∈-comparable
 
     -- and a search of it compares no more places than one of all
     pub comparable-fewer : (limit : ℕ) → length (compared q ss read limit) ≤ length (stopped (matches ss read) (places (length read) ss) limit)

@@ -11,18 +11,18 @@ use borrow.Author.Tests.{eq-eqb, ne-eqb, ltb-false}
 use Rattle.lists.specs.Limit.{goOn, stopped}
 use Rattle.lists.specs.Cut.{window}
 use Rattle.lists.proofs.Cases.{by-test}
-use Rattle.lists.proofs.Keep.{keep-range}
-use Rattle.catalogue.specs.Ordered.{numbers}
+use Rattle.lists.proofs.Filter.{filter-range}
+use Rattle.names.specs.Ordered.{numbers}
 use Rattle.seeds.specs.Key.{keyOf}
 use Rattle.seeds.specs.Seeds.{starts}
-use Rattle.postings.specs.Index.{RangeOf}
+use Rattle.lookup.specs.Range.{RangeOf}
 use Rattle.candidates.specs.Search.{tried, fewest, rarest, keyCount, offsetCount, Rarest}
 use Rattle.candidates.specs.Choosing.{Better}
 
 -- a range has as many places as its key has postings
 pub range-count : (keys : List ℕ) (k start end : ℕ) → RangeOf keys k start end → keyCount keys k ≡ end - start
 range-count keys k start end r =
-    let e = keep-range (λ x. eqb x k) 0 start (end - start) keys (omega (arith, r .ordered, r .inside))
+    let e = filter-range (λ x. eqb x k) 0 start (end - start) keys (omega (arith, r .ordered, r .inside))
     (λ i h. ne-eqb (getD keys i 0) k (λ e. let b = r .before i h in omega arith))
     (λ i h l. eq-eqb (getD keys i 0) k (r .among i h (omega (arith, r .ordered))))
     (λ i h l. ne-eqb (getD keys i 0) k (λ e. let b = r .after i (omega (arith, r .ordered)) l in omega arith)) in

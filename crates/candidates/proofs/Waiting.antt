@@ -7,7 +7,7 @@ use Prim.Native.Nat.{ℕ, suc, _+_, _-_, _<_, _≤_}
 use native.Mathlib.Omega.{arith}
 use lib.ListN.{length, getD, take, drop, length-take, length-drop}
 use lib.Seq.{getD-take, getD-drop, drop-drop}
-use Rattle.lists.specs.Keep.{keep}
+use Rattle.lists.specs.Filter.{filter}
 use Rattle.lists.specs.Limit.{goOn, stopped}
 use Rattle.lists.proofs.First.{First, first-kept, first-stopped, none-kept, none-stopped}
 use Rattle.lists.proofs.Places.{getD-map, drop-take}
@@ -56,8 +56,8 @@ module _ (ss : List (List ℕ)) (n o : ℕ) (ps : List Posting) where
           left = omega (arith, f .from)
 
       -- the posting found comes first of those that lie
-      pub found-kept : keep (lies ss n o) (ahead ps next end) ≡ getD ps last none ∷ keep (lies ss n o) (ahead ps (suc last) end)
-      found-kept = first-kept (lies ss n o) none (ahead ps next end) (last - next) first-ahead ∙ ap (λ x. x ∷ keep (lies ss n o) (drop (suc (last - next)) (ahead ps next end))) here ∙ ap (λ xs. getD ps last none ∷ keep (lies ss n o) xs) behind
+      pub found-kept : filter (lies ss n o) (ahead ps next end) ≡ getD ps last none ∷ filter (lies ss n o) (ahead ps (suc last) end)
+      found-kept = first-kept (lies ss n o) none (ahead ps next end) (last - next) first-ahead ∙ ap (λ x. x ∷ filter (lies ss n o) (drop (suc (last - next)) (ahead ps next end))) here ∙ ap (λ xs. getD ps last none ∷ filter (lies ss n o) xs) behind
         where
           here : getD (ahead ps next end) (last - next) none ≡ getD ps last none
           here = getD-take (end - next) (drop next ps) (last - next) none (omega (arith, f .from, f .inside)) ∙ getD-drop next ps (last - next) none ∙ ap (λ k. getD ps k none) place
@@ -71,7 +71,7 @@ module _ (ss : List (List ℕ)) (n o : ℕ) (ps : List Posting) where
       none-ahead i l = ahead-at i (omega (arith, length-ahead)) ∙ h (next + i) (omega arith) (omega (arith, length-ahead))
 
       -- none lies, and every posting is examined
-      pub nothing-kept : keep (lies ss n o) (ahead ps next end) ≡ []
+      pub nothing-kept : filter (lies ss n o) (ahead ps next end) ≡ []
       nothing-kept = none-kept (lies ss n o) none (ahead ps next end) none-ahead
 
       pub all-examined : (m : ℕ) → length (stopped (lies ss n o) (ahead ps next end) m) ≡ end - next

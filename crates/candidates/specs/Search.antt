@@ -5,16 +5,17 @@ use mathlib.Core.List.{List, [], _∷_, map}
 use Prim.Native.Nat.{ℕ, suc, _+_, _-_}
 use lib.ListN.{length, getD, take}
 use lib.Dec.{eqb, leb, ltb}
-use Rattle.lists.specs.Keep.{keep}
+use Rattle.lists.specs.Filter.{filter}
 use Rattle.lists.specs.Sort.{merge}
 use Rattle.lists.specs.Limit.{stopped}
 use Rattle.lists.specs.Cut.{window}
-use Rattle.catalogue.specs.Ordered.{numbers}
+use Rattle.names.specs.Ordered.{numbers}
 use Rattle.bases.specs.Read.{oriented}
 use Rattle.columns.specs.Posting.{Posting}
 use Rattle.seeds.specs.Key.{keyOf}
 use Rattle.seeds.specs.Seeds.{starts}
-use Rattle.postings.specs.Index.{indexOf, hits, RangeOf}
+use Rattle.lookup.specs.Range.{RangeOf}
+use Rattle.index.specs.Index.{indexOf, hits}
 use Rattle.places.specs.Place.{Place, place, before, places, matches}
 
 -- ---- the rarest of n offsets, by how many postings each has
@@ -62,7 +63,7 @@ module _ (q : ℕ) (ss : List (List ℕ)) (read : List ℕ) where
   -- ---- candidates
 
   abbrev pub candidatesAt : ℕ → ℕ → List Place
-  candidatesAt strand o = map (candidate strand o) (keep (lies ss (length read) o) (seedHits strand o))
+  candidatesAt strand o = map (candidate strand o) (filter (lies ss (length read) o) (seedHits strand o))
 
   abbrev pub candidates : ℕ → List Place
   candidates strand = candidatesAt strand (chosen strand)
@@ -81,7 +82,7 @@ module _ (q : ℕ) (ss : List (List ℕ)) (read : List ℕ) where
 
 -- how many postings a key has
 abbrev pub keyCount : List ℕ → ℕ → ℕ
-keyCount keys k = length (keep (λ x. eqb x k) keys)
+keyCount keys k = length (filter (λ x. eqb x k) keys)
 
 -- how many postings the seed at an offset has
 abbrev pub offsetCount : List ℕ → ℕ → List ℕ → ℕ → ℕ

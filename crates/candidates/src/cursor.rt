@@ -1,12 +1,13 @@
 // The candidates of a seed's postings, one after the other.
 ghost use mathlib.Core.Path.{_≡_};
 ghost use lib.ListN.{length};
-ghost use Rattle.postings.specs.Index.{rankedSequences, Lent};
+ghost use Rattle.lists.specs.Slice.{old};
+ghost use Rattle.index.specs.Index.{Lent, lentSequences};
 ghost use Rattle.candidates.specs.Search.{fits};
 ghost use Rattle.candidates.specs.Cursor.{CursorIn, Taken};
-use postings::ranked::ranked_sequence;
-use postings::read::posting_position;
-use postings::read::posting_rank;
+use index::ranked::ranked_sequence;
+use lookup::read::posting_position;
+use lookup::read::posting_rank;
 
 // The postings from next up to end of a seed that stands at an offset of the read on a strand.
 pub struct OrientationCursor {
@@ -49,7 +50,7 @@ impl OrientationCursor {
         n: usize,
     ) -> Candidate
         requires { ⌜ Lent (now bases) (now ends) (now ranked) × CursorIn (now ranks) (now positions) (length (now ranked)) (self .next) (self .end) ⌝ }
-        ensures { λ r. ⌜ Taken (rankedSequences (now (bases .entry)) (now (ends .entry)) (now (ranked .entry))) n (now (ranks .entry)) (now (positions .entry)) self r ⌝ }
+        ensures { λ r. ⌜ Taken (lentSequences bases ends ranked) n (old ranks) (old positions) self r ⌝ }
     {
         let mut i = self.next;
         while i < self.end {

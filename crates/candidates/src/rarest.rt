@@ -2,13 +2,14 @@
 ghost use mathlib.Core.Path.{_≡_};
 ghost use Prim.Native.Nat.{_+_, _≤_};
 ghost use lib.ListN.{length};
+ghost use Rattle.lists.specs.Slice.{old};
 ghost use Rattle.bases.specs.Read.{oriented};
 ghost use Rattle.seeds.specs.Key.{SeedIn};
-ghost use Rattle.postings.specs.Index.{Rising};
+ghost use Rattle.lookup.specs.Range.{Rising};
 ghost use Rattle.candidates.specs.Search.{Rarest};
 ghost use Rattle.candidates.specs.Choosing.{Better};
-use postings::lookup::Range;
-use postings::lookup::posting_range;
+use lookup::lookup::Range;
+use lookup::lookup::posting_range;
 use seeds::keys::key_at;
 use seeds::keys::key_next;
 use seeds::keys::power;
@@ -48,7 +49,7 @@ impl SeedChoice {
 // Looks the seeds of a read up, offset by offset, and stops after a lookup that finds none.
 pub fn rarest_seed(read: &[u8], strand: u64, keys: &[u64], q: usize) -> SeedChoice
     requires { ⌜ SeedIn (length (now read)) q 0 × (Rising (now keys) × (length (now read) ≤ 65535)) ⌝ }
-    ensures { λ r. ⌜ Rarest (now (keys .entry)) q (oriented strand (now (read .entry))) (r .offset) (r .start) (r .end) (r .lookups) ⌝ }
+    ensures { λ r. ⌜ Rarest (old keys) q (oriented strand (old read)) (r .offset) (r .start) (r .end) (r .lookups) ⌝ }
 {
     let n = read.len() - q + 1;
     let high = power(q - 1);

@@ -2,7 +2,8 @@
 ghost use mathlib.Core.Path.{_≡_};
 ghost use mathlib.Core.Bool.{_||_, cond};
 ghost use lib.ListN.{length};
-ghost use Rattle.postings.specs.Index.{rankedSequences, Lent};
+ghost use Rattle.lists.specs.Slice.{old};
+ghost use Rattle.index.specs.Index.{Lent, lentSequences};
 ghost use Rattle.candidates.specs.Cursor.{CursorIn, plusFirst, BothTaken, OneMoved};
 use crate::cursor::Candidate;
 use crate::cursor::OrientationCursor;
@@ -24,7 +25,7 @@ pub fn first_candidates(
     n: usize,
 ) -> Sides
     requires { ⌜ Lent (now bases) (now ends) (now ranked) × (CursorIn (now ranks) (now positions) (length (now ranked)) (plus .next) (plus .end) × CursorIn (now ranks) (now positions) (length (now ranked)) (minus .next) (minus .end)) ⌝ }
-    ensures { λ r. ⌜ BothTaken (rankedSequences (now (bases .entry)) (now (ends .entry)) (now (ranked .entry))) n (now (ranks .entry)) (now (positions .entry)) plus minus r ⌝ }
+    ensures { λ r. ⌜ BothTaken (lentSequences bases ends ranked) n (old ranks) (old positions) plus minus r ⌝ }
 {
     let forward = plus.next_candidate(bases, ends, ranked, ranks, positions, n);
     let backward = minus.next_candidate(bases, ends, ranked, ranks, positions, n);
@@ -83,7 +84,7 @@ impl Sides {
         n: usize,
     ) -> Sides
         requires { ⌜ Lent (now bases) (now ends) (now ranked) × (CursorIn (now ranks) (now positions) (length (now ranked)) (self .plus .cursor .next) (self .plus .cursor .end) × CursorIn (now ranks) (now positions) (length (now ranked)) (self .minus .cursor .next) (self .minus .cursor .end)) ⌝ }
-        ensures { λ r. ⌜ OneMoved (rankedSequences (now (bases .entry)) (now (ends .entry)) (now (ranked .entry))) n (now (ranks .entry)) (now (positions .entry)) plus self r ⌝ }
+        ensures { λ r. ⌜ OneMoved (lentSequences bases ends ranked) n (old ranks) (old positions) plus self r ⌝ }
     {
         let forward = self.plus;
         let backward = self.minus;

@@ -7,10 +7,10 @@
 ghost use Prim.Native.Nat.{_+_, _*_, _<_, _≤_};
 ghost use mathlib.Core.Path.{_≡_};
 ghost use lib.ListN.{length};
-use indexed_mapper::answer::MapAnswer;
-use indexed_mapper::answer::Mapping;
-use indexed_mapper::answer::MappingWork;
-use indexed_mapper::answer::state_number;
+use search::answer::MapAnswer;
+use search::answer::Mapping;
+use search::answer::MappingWork;
+use search::answer::state_number;
 use indexed_mapper::map::map;
 use libc::STDIN_FILENO;
 use libc::STDOUT_FILENO;

@@ -8,39 +8,39 @@ use native.Mathlib.Omega.{arith}
 use lib.ListN.{length}
 use lib.Dec.{leb, eqb}
 use borrow.Author.Tests.{eqb-true, leb-true, lt-ltb, lt-leb, le-leb, eq-eqb, ne-eqb}
-use Rattle.lists.specs.Keep.{every}
+use Rattle.lists.specs.Filter.{every}
 use Rattle.lists.specs.Cut.{endsWithin}
 use Rattle.lists.proofs.Cases.{and-true}
 use Rattle.lists.proofs.Cut.{ends-weaken}
-use Rattle.bases.specs.Base.{A, C, G, isBase}
+use Rattle.bases.specs.Base.{A, C, G, isCapital}
 use Rattle.catalogue.specs.Catalogue.{Catalogue, names, maxTargets, maxIdentifier, maxBases, countsRight, endsRight, valuesRight, inBounds, properSequence}
 
 -- ---- capitals
 
 -- a byte is a capital of ACGT by the first letter that it equals
 module _ (b : ℕ) where
-  pub is-A : b ≡ 65 → true ≡ isBase b
-  unfolding isBase
+  pub is-A : b ≡ 65 → true ≡ isCapital b
+  unfolding isCapital
   is-A e = rw (eq-eqb b A e)
 
   module _ (not-A : b ≡ 65 → ⊥) where
-    pub is-C : b ≡ 67 → true ≡ isBase b
-    unfolding isBase
+    pub is-C : b ≡ 67 → true ≡ isCapital b
+    unfolding isCapital
     is-C e = rw (ne-eqb b A not-A, eq-eqb b C e)
 
     module _ (not-C : b ≡ 67 → ⊥) where
-      pub is-G : b ≡ 71 → true ≡ isBase b
-      unfolding isBase
+      pub is-G : b ≡ 71 → true ≡ isCapital b
+      unfolding isCapital
       is-G e = rw (ne-eqb b A not-A, ne-eqb b C not-C, eq-eqb b G e)
 
-      pub or-T : (b ≡ 71 → ⊥) → eqb b 84 ≡ isBase b
-      unfolding isBase
+      pub or-T : (b ≡ 71 → ⊥) → eqb b 84 ≡ isCapital b
+      unfolding isCapital
       or-T not-G = rw (ne-eqb b A not-A, ne-eqb b C not-C, ne-eqb b G not-G)
 
 pub empty-sequence : (s : List ℕ) → length s ≡ 0 → false ≡ properSequence s
 empty-sequence s h = rw h
 
-pub some-sequence : (s : List ℕ) → (length s ≡ 0 → ⊥) → every isBase s ≡ properSequence s
+pub some-sequence : (s : List ℕ) → (length s ≡ 0 → ⊥) → every isCapital s ≡ properSequence s
 some-sequence s h = rw (lt-ltb 0 (length s) (omega arith))
 
 -- ---- the bounds, in the order of the tests

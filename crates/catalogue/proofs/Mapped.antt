@@ -9,24 +9,24 @@ use native.Mathlib.Omega.{arith}
 use native.Mathlib.Nat.{zero-add}
 use lib.ListN.{length, getD}
 use lib.Dec.{eqb}
-use Rattle.lists.specs.Keep.{keep, every}
+use Rattle.lists.specs.Filter.{filter, every}
 use Rattle.lists.specs.Member.{_∈_}
 use Rattle.lists.specs.Order.{Apart, Ascending}
 use Rattle.lists.specs.Sort.{sort}
 use Rattle.lists.specs.Same.{same}
 use Rattle.lists.proofs.Cases.{by-test, clash, compare, and-true}
 use Rattle.lists.proofs.Member.{∈-map, map-∈}
-use Rattle.lists.proofs.Keep.{∈-keep, keep-∈}
-use Rattle.lists.proofs.Order.{order-by, ascending-keep, ascending-map, ascending-unique, apart-keep}
+use Rattle.lists.proofs.Filter.{∈-filter, filter-∈}
+use Rattle.lists.proofs.Order.{order-by, ascending-filter, ascending-map, ascending-unique, apart-filter}
 use Rattle.lists.proofs.Sort.{sort-ascending, ∈-sort, sort-∈}
-use Rattle.catalogue.specs.Name.{nameBefore, distinctNames}
-use Rattle.catalogue.specs.Ordered.{numbers, placeBefore}
+use Rattle.names.specs.Name.{nameBefore, distinctNames}
+use Rattle.names.specs.Ordered.{numbers, placeBefore}
 use Rattle.catalogue.specs.Catalogue.{Catalogue, Target, targetsFrom, targets, names, sequences, isMapped, byName, inBounds, mapped}
 use Rattle.catalogue.specs.Ranking.{linearAt}
 use Rattle.lists.proofs.Cut.{length-cut}
 use Rattle.catalogue.proofs.Checks.{bounded}
-use Rattle.catalogue.proofs.NameLaws.{name-order, name-total, place-order, two-same}
-use Rattle.catalogue.proofs.Merging.{numbers-∈, ∈-numbers}
+use Rattle.names.proofs.NameLaws.{name-order, name-total, place-order, two-same}
+use Rattle.names.proofs.Merging.{numbers-∈, ∈-numbers}
 
 -- ---- targets by place
 
@@ -97,40 +97,40 @@ module _ (ns ss : List (List ℕ)) (ms : List ℕ) (sequenced : length ss ≡ le
   named t m = ap (λ u. u .identifier) (at-place t m .1)
 
   abbrev ranked : List Target
-  ranked = sort byName (keep isMapped (targetsFrom 0 ns ss ms))
+  ranked = sort byName (filter isMapped (targetsFrom 0 ns ss ms))
 
   ranked-ascending : Ascending byName ranked
-  ranked-ascending = sort-ascending byName (order-by (λ t. t .identifier) name-order) (keep isMapped (targetsFrom 0 ns ss ms)) (apart-keep byName isMapped (targetsFrom 0 ns ss ms) (targets-apart 0 ns ss ms distinct))
+  ranked-ascending = sort-ascending byName (order-by (λ t. t .identifier) name-order) (filter isMapped (targetsFrom 0 ns ss ms)) (apart-filter byName isMapped (targetsFrom 0 ns ss ms) (targets-apart 0 ns ss ms distinct))
 
   ranked-∈ : (t : Target) → t ∈ ranked → (t ∈ targetsFrom 0 ns ss ms) × (isMapped t ≡ true)
-  ranked-∈ t m = keep-∈ isMapped t (targetsFrom 0 ns ss ms) (sort-∈ byName t (keep isMapped (targetsFrom 0 ns ss ms)) m)
+  ranked-∈ t m = filter-∈ isMapped t (targetsFrom 0 ns ss ms) (sort-∈ byName t (filter isMapped (targetsFrom 0 ns ss ms)) m)
 
   -- the places of the mapped targets by rank are the linear places in the order of their names
-  pub places-ranked : keep (linearAt ms) (sort (placeBefore ns) (numbers 0 (length ns))) ≡ map (λ t. t .place) ranked
+  pub places-ranked : filter (linearAt ms) (sort (placeBefore ns) (numbers 0 (length ns))) ≡ map (λ t. t .place) ranked
   places-ranked =
-      ascending-unique (placeBefore ns) (place-order ns) (keep (linearAt ms) (sort (placeBefore ns) (numbers 0 (length ns)))) (map (λ t. t .place) ranked)
-      (ascending-keep (placeBefore ns) (linearAt ms) (sort (placeBefore ns) (numbers 0 (length ns))) (sort-ascending (placeBefore ns) (place-order ns) (numbers 0 (length ns)) (numbers-apart ns distinct 0 (length ns) (omega arith))))
+      ascending-unique (placeBefore ns) (place-order ns) (filter (linearAt ms) (sort (placeBefore ns) (numbers 0 (length ns)))) (map (λ t. t .place) ranked)
+      (ascending-filter (placeBefore ns) (linearAt ms) (sort (placeBefore ns) (numbers 0 (length ns))) (sort-ascending (placeBefore ns) (place-order ns) (numbers 0 (length ns)) (numbers-apart ns distinct 0 (length ns) (omega arith))))
       (ascending-map byName (placeBefore ns) (λ t. t .place) ranked (λ t u m k h. ordered t u (ranked-∈ t m .0) (ranked-∈ u k .0) h) ranked-ascending)
       to from
     where
       ordered : (t u : Target) → t ∈ targetsFrom 0 ns ss ms → u ∈ targetsFrom 0 ns ss ms → byName t u ≡ true → placeBefore ns (t .place) (u .place) ≡ true
       ordered t u m k h = ap₂ (λ x y. nameBefore x y) (sym (named t m)) (sym (named u k)) ∙ h
 
-      to : (p : ℕ) → p ∈ keep (linearAt ms) (sort (placeBefore ns) (numbers 0 (length ns))) → p ∈ map (λ t. t .place) ranked
+      to : (p : ℕ) → p ∈ filter (linearAt ms) (sort (placeBefore ns) (numbers 0 (length ns))) → p ∈ map (λ t. t .place) ranked
       to p m =
-          let k = keep-∈ (linearAt ms) p (sort (placeBefore ns) (numbers 0 (length ns))) m in
+          let k = filter-∈ (linearAt ms) p (sort (placeBefore ns) (numbers 0 (length ns))) m in
           let r = numbers-∈ 0 (length ns) p (sort-∈ (placeBefore ns) p (numbers 0 (length ns)) (k .0)) in
           let t = targetAt 0 ns ss ms p in
           let z : p ≡ 0 + p = omega arith in
-          rw z (∈-map (λ t. t .place) t ranked (∈-sort byName t (keep isMapped (targetsFrom 0 ns ss ms)) (∈-keep isMapped t (targetsFrom 0 ns ss ms) (∈-targets 0 ns ss ms sequenced marked p (omega arith)) (k .1))))
+          rw z (∈-map (λ t. t .place) t ranked (∈-sort byName t (filter isMapped (targetsFrom 0 ns ss ms)) (∈-filter isMapped t (targetsFrom 0 ns ss ms) (∈-targets 0 ns ss ms sequenced marked p (omega arith)) (k .1))))
 
-      from : (p : ℕ) → p ∈ map (λ t. t .place) ranked → p ∈ keep (linearAt ms) (sort (placeBefore ns) (numbers 0 (length ns)))
+      from : (p : ℕ) → p ∈ map (λ t. t .place) ranked → p ∈ filter (linearAt ms) (sort (placeBefore ns) (numbers 0 (length ns)))
       from p m =
           let r = map-∈ (λ t. t .place) p ranked m in
           let q = ranked-∈ (r .0) (r .1) in
           let a = at-place (r .0) (q .0) in
           let l : p < length ns = omega (arith, a .0, r .2) in
-          ∈-keep (linearAt ms) p (sort (placeBefore ns) (numbers 0 (length ns))) (∈-sort (placeBefore ns) p (numbers 0 (length ns)) (∈-numbers 0 (length ns) p (omega arith) (omega arith)))
+          ∈-filter (linearAt ms) p (sort (placeBefore ns) (numbers 0 (length ns))) (∈-sort (placeBefore ns) p (numbers 0 (length ns)) (∈-numbers 0 (length ns) p (omega arith) (omega arith)))
           (ap (λ n. eqb (getD ms n 0) 0) (r .2) ∙ ap isMapped (sym (a .1)) ∙ q .1)
 
 -- ---- the mapped targets of a catalogue
@@ -139,16 +139,16 @@ module _ (c : Catalogue) where
   -- each linear target has a rank, and no other
   pub mapped-∈ : (t : Target) → t ∈ mapped c → (t ∈ targets c) × (isMapped t ≡ true)
   unfolding mapped
-  mapped-∈ t m = keep-∈ isMapped t (targets c) (sort-∈ byName t (keep isMapped (targets c)) m)
+  mapped-∈ t m = filter-∈ isMapped t (targets c) (sort-∈ byName t (filter isMapped (targets c)) m)
 
   pub ∈-mapped : (t : Target) → t ∈ targets c → isMapped t ≡ true → t ∈ mapped c
   unfolding mapped
-  ∈-mapped t m h = ∈-sort byName t (keep isMapped (targets c)) (∈-keep isMapped t (targets c) m h)
+  ∈-mapped t m h = ∈-sort byName t (filter isMapped (targets c)) (∈-filter isMapped t (targets c) m h)
 
   -- ranks ascend by name, so that no target has two
   pub mapped-ascending : distinctNames (names c) ≡ true → Ascending byName (mapped c)
   unfolding mapped
-  mapped-ascending d = sort-ascending byName (order-by (λ t. t .identifier) name-order) (keep isMapped (targets c)) (apart-keep byName isMapped (targets c) (targets-apart 0 (names c) (sequences c) (c .marks) d))
+  mapped-ascending d = sort-ascending byName (order-by (λ t. t .identifier) name-order) (filter isMapped (targets c)) (apart-filter byName isMapped (targets c) (targets-apart 0 (names c) (sequences c) (c .marks) d))
 
 -- a target's place is one of the catalogue's, and has its sequence
 pub at-its-place : (c : Catalogue) → inBounds c ≡ true → (t : Target) → t ∈ targets c → (t .place < length (c .baseEnds)) × (t .bases ≡ getD (sequences c) (t .place) [])

@@ -9,21 +9,21 @@ use lib.ListN.{length, take, length-take, length-map}
 use lib.Seq.{take-append-le}
 use lib.Dec.{ltb}
 use borrow.Author.Tests.{lt-ltb}
-use Rattle.lists.specs.Keep.{every}
+use Rattle.lists.specs.Filter.{every}
 use Rattle.lists.specs.Sort.{sort}
 use Rattle.lists.proofs.Cases.{by-test}
 use Rattle.lists.proofs.Every.{∈-every}
 use Rattle.lists.proofs.Sort.{sort-∈}
 use Rattle.lists.proofs.Cut.{length-cut}
 use Rattle.catalogue.specs.Refusal.{unless}
-use Rattle.catalogue.specs.Name.{distinctNames}
-use Rattle.catalogue.specs.Ordered.{numbers, placeBefore}
+use Rattle.names.specs.Name.{distinctNames}
+use Rattle.names.specs.Ordered.{numbers, placeBefore}
 use Rattle.catalogue.specs.Catalogue.{Catalogue, Valid, names, sequences, inBounds, properSequence, catalogueRefusal, mapped}
 use Rattle.catalogue.specs.Ranking.{Kept, NamesRanked, RankedAs}
 use Rattle.catalogue.specs.declared.ranks.Ranking.{Ranking}
 use Rattle.catalogue.specs.declared.ranks.Ranking.the-variants.{Refused, Ranked}
 use Rattle.catalogue.proofs.Checks.{bounded}
-use Rattle.catalogue.proofs.Merging.{numbers-∈}
+use Rattle.names.proofs.Merging.{numbers-∈}
 use Rattle.catalogue.proofs.Mapped.{places-ranked}
 
 -- the places of an order are below the number of names

@@ -6,12 +6,13 @@ use mathlib.Core.List.{List, [], _∷_, map}
 use Prim.Native.Nat.{ℕ, suc, min}
 use lib.ListN.{length}
 use lib.Dec.{leb, eqb, ltb}
-use Rattle.lists.specs.Keep.{keep, every}
+use Rattle.lists.specs.Filter.{filter, every}
 use Rattle.lists.specs.Sort.{sort}
 use Rattle.lists.specs.Cut.{cut, endsWithin}
-use Rattle.bases.specs.Base.{isBase}
+use Rattle.lists.specs.Slice.{Slice, old}
+use Rattle.bases.specs.Base.{isCapital}
 use Rattle.catalogue.specs.Refusal.{unless, _orElse_}
-use Rattle.catalogue.specs.Name.{nameBefore, distinctNames}
+use Rattle.names.specs.Name.{nameBefore, distinctNames}
 
 -- a catalogue as it is lent: identifier bytes with ends, base bytes with ends, a topology mark for each target
 pub record Catalogue : Type 0 where
@@ -21,8 +22,9 @@ pub record Catalogue : Type 0 where
   pub baseEnds : List ℕ
   pub marks : List ℕ
 
-abbrev pub lentCatalogue : List ℕ → List ℕ → List ℕ → List ℕ → List ℕ → Catalogue
-lentCatalogue is ies bs bes ms = record { identifiers = is; identifierEnds = ies; bases = bs; baseEnds = bes; marks = ms }
+-- the catalogue that the slices of a call hold
+abbrev pub lentCatalogue : Slice → Slice → Slice → Slice → Slice → Catalogue
+lentCatalogue is ies bs bes ms = record { identifiers = old is; identifierEnds = old ies; bases = old bs; baseEnds = old bes; marks = old ms }
 
 -- a target, with its place in the order of supply
 pub record Target : Type 0 where
@@ -78,7 +80,7 @@ inBounds c = countsRight c && endsRight c && valuesRight c
 
 -- 3 where some target fails: it is not empty, and all its bases are capitals of ACGT
 abbrev pub properSequence : List ℕ → Bool
-properSequence s = ltb 0 (length s) && every isBase s
+properSequence s = ltb 0 (length s) && every isCapital s
 
 -- the first of 2, 3 and 4 that holds, each over all targets; 4 is for two equal identifiers
 unfoldable pub catalogueRefusal : Catalogue → ℕ
@@ -100,4 +102,4 @@ byName t u = nameBefore (t .identifier) (u .identifier)
 
 -- the mapped targets by name: a target's rank is its place in this list, counted from 0
 unfoldable pub mapped : Catalogue → List Target
-mapped c = sort byName (keep isMapped (targets c))
+mapped c = sort byName (filter isMapped (targets c))

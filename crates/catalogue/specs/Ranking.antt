@@ -5,11 +5,11 @@ use mathlib.Core.List.{List, map}
 use Prim.Native.Nat.{ℕ}
 use lib.ListN.{length, getD, take}
 use lib.Dec.{eqb}
-use Rattle.lists.specs.Keep.{keep}
+use Rattle.lists.specs.Filter.{filter}
 use Rattle.lists.specs.Sort.{sort}
 use Rattle.catalogue.specs.Refusal.{unless}
-use Rattle.catalogue.specs.Name.{distinctNames}
-use Rattle.catalogue.specs.Ordered.{numbers, placeBefore}
+use Rattle.names.specs.Name.{distinctNames}
+use Rattle.names.specs.Ordered.{numbers, placeBefore}
 use Rattle.catalogue.specs.Catalogue.{Catalogue, Target, catalogueRefusal, mapped}
 use Rattle.catalogue.specs.declared.ranks.Ranking.{Ranking}
 use Rattle.catalogue.specs.declared.ranks.Ranking.the-variants.{Refused, Ranked}
@@ -20,8 +20,8 @@ linearAt marks p = eqb (getD marks p 0) 0
 
 -- the first r numbers of a buffer are the linear places of an order, in that order
 pub record Kept (marks order : List ℕ) (r : ℕ) (buffer : List ℕ) : Type 0 where
-  pub count : r ≡ length (keep (linearAt marks) order)
-  pub places : take r buffer ≡ keep (linearAt marks) order
+  pub count : r ≡ length (filter (linearAt marks) order)
+  pub places : take r buffer ≡ filter (linearAt marks) order
 
 -- the refusal that an answer stands for
 abbrev pub rankingRefusal : Ranking → ℕ

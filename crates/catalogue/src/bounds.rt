@@ -5,9 +5,10 @@ ghost use mathlib.Core.List.{List};
 ghost use Prim.Native.Nat.{ℕ, _≤_, min};
 ghost use lib.ListN.{length};
 ghost use lib.Dec.{leb};
-ghost use Rattle.lists.specs.Keep.{every};
+ghost use Rattle.lists.specs.Filter.{every};
 ghost use Rattle.lists.specs.Cut.{cut, endsWithin};
-ghost use Rattle.bases.specs.Base.{isBase};
+ghost use Rattle.lists.specs.Slice.{old};
+ghost use Rattle.bases.specs.Base.{isCapital};
 ghost use Rattle.catalogue.specs.Catalogue.{lentCatalogue, countsRight, endsRight, valuesRight, inBounds, properSequence, sequences};
 
 pub const MAX_TARGETS: usize = 4096;
@@ -18,7 +19,7 @@ pub const MAX_BASES: usize = 16777216;
 
 // Whether no end falls or passes a bound.
 pub fn ends_within(ends: &[usize], most: usize) -> bool
-    ensures { λ r. ⌜ r ≡ endsWithin 0 most (now (ends .entry)) ⌝ }
+    ensures { λ r. ⌜ r ≡ endsWithin 0 most (old ends) ⌝ }
 {
     let mut from = 0;
     let mut i = 0;
@@ -39,7 +40,7 @@ pub fn ends_within(ends: &[usize], most: usize) -> bool
 // Whether no sequence is longer than a bound.
 fn lengths_within(ends: &[usize], bytes: &[u8], most: usize) -> bool
     requires { ⌜ endsWithin 0 (length (now bytes)) (now ends) ≡ true ⌝ }
-    ensures { λ r. ⌜ r ≡ every (λ (s : List ℕ). leb (length s) most) (cut (now (ends .entry)) (now (bytes .entry))) ⌝ }
+    ensures { λ r. ⌜ r ≡ every (λ (s : List ℕ). leb (length s) most) (cut (old ends) (old bytes)) ⌝ }
 {
     let mut from = 0;
     let mut i = 0;
@@ -56,7 +57,7 @@ fn lengths_within(ends: &[usize], bytes: &[u8], most: usize) -> bool
 
 // Whether each mark is 0 or 1.
 fn marks_right(marks: &[u8]) -> bool
-    ensures { λ r. ⌜ r ≡ every (λ m. leb m 1) (now (marks .entry)) ⌝ }
+    ensures { λ r. ⌜ r ≡ every (λ m. leb m 1) (old marks) ⌝ }
 {
     let mut i = 0;
     while i < marks.len() {
@@ -82,7 +83,7 @@ pub fn in_bounds(
     base_ends: &[usize],
     marks: &[u8],
 ) -> bool
-    ensures { λ r. ⌜ r ≡ inBounds (lentCatalogue (now (identifiers .entry)) (now («identifier_ends» .entry)) (now (bases .entry)) (now («base_ends» .entry)) (now (marks .entry))) ⌝ }
+    ensures { λ r. ⌜ r ≡ inBounds (lentCatalogue identifiers «identifier_ends» bases «base_ends» marks) ⌝ }
 {
     if MAX_TARGETS < identifier_ends.len() {
         return false;
@@ -107,7 +108,7 @@ pub fn in_bounds(
 
 // Whether a sequence is not empty and all capitals of ACGT.
 pub fn proper_sequence(bases: &[u8]) -> bool
-    ensures { λ r. ⌜ r ≡ properSequence (now (bases .entry)) ⌝ }
+    ensures { λ r. ⌜ r ≡ properSequence (old bases) ⌝ }
 {
     if bases.len() == 0 {
         return false;
@@ -116,11 +117,11 @@ pub fn proper_sequence(bases: &[u8]) -> bool
 }
 
 fn all_capitals(bases: &[u8]) -> bool
-    ensures { λ r. ⌜ r ≡ every isBase (now (bases .entry)) ⌝ }
+    ensures { λ r. ⌜ r ≡ every isCapital (old bases) ⌝ }
 {
     let mut i = 0;
     while i < bases.len() {
-        if !is_base(bases[i]) {
+        if !is_capital(bases[i]) {
             return false;
         }
         i += 1;
@@ -129,8 +130,8 @@ fn all_capitals(bases: &[u8]) -> bool
 }
 
 // Whether a byte is a capital of ACGT.
-fn is_base(b: u8) -> bool
-    ensures { λ r. ⌜ r ≡ isBase b ⌝ }
+fn is_capital(b: u8) -> bool
+    ensures { λ r. ⌜ r ≡ isCapital b ⌝ }
 {
     if b == 65 {
         return true;
@@ -147,7 +148,7 @@ fn is_base(b: u8) -> bool
 // Whether every target's sequence is proper: refusal 3 where some is not.
 pub fn all_proper(bases: &[u8], ends: &[usize]) -> bool
     requires { ⌜ endsWithin 0 (length (now bases)) (now ends) ≡ true ⌝ }
-    ensures { λ r. ⌜ r ≡ every properSequence (cut (now (ends .entry)) (now (bases .entry))) ⌝ }
+    ensures { λ r. ⌜ r ≡ every properSequence (cut (old ends) (old bases)) ⌝ }
 {
     let mut from = 0;
     let mut i = 0;

@@ -1,5 +1,3 @@
 // A catalogue of targets, lent as bytes with ends: its refusals and the rank of each linear target.
 pub mod bounds;
-pub mod names;
-pub mod order;
 pub mod ranks;

@@ -4,13 +4,14 @@ ghost use mathlib.Core.Bool.{true, cond};
 ghost use Prim.Native.Nat.{_+_, _<_, _≤_};
 ghost use lib.ListN.{length, set};
 ghost use lib.Dec.{ltb};
-ghost use Rattle.lists.specs.Keep.{every};
+ghost use Rattle.lists.specs.Filter.{every};
 ghost use Rattle.lists.specs.Cut.{cut, endsWithin};
+ghost use Rattle.lists.specs.Slice.{old, new};
 ghost use Rattle.catalogue.specs.Catalogue.{lentCatalogue};
 ghost use Rattle.catalogue.specs.Ranking.{Kept, NamesRanked, RankedAs};
 use crate::bounds::all_proper;
 use crate::bounds::in_bounds;
-use crate::order::order_names;
+use names::order::order_names;
 
 // A catalogue's refusal, 2 to 4, or the number of its mapped targets.
 pub enum Ranking {
@@ -21,7 +22,7 @@ pub enum Ranking {
 // Puts a place behind those kept if it is linear, and answers how many are kept then.
 fn keep_place(order: &mut [usize], kept: usize, place: usize, linear: bool) -> usize
     requires { ⌜ kept < length (now order) ⌝ }
-    ensures { λ r. ⌜ (r ≡ cond linear (kept + 1) kept) × (now (order .exit) ≡ cond linear (set (now (order .entry)) kept place) (now (order .entry))) ⌝ }
+    ensures { λ r. ⌜ (r ≡ cond linear (kept + 1) kept) × (new order ≡ cond linear (set (old order) kept place) (old order)) ⌝ }
 {
     if linear {
         order[kept] = place;
@@ -33,7 +34,7 @@ fn keep_place(order: &mut [usize], kept: usize, place: usize, linear: bool) -> u
 // Moves the places of linear targets to the front, in their order, and answers how many there are.
 fn keep_linear(order: &mut [usize], marks: &[u8]) -> usize
     requires { ⌜ every (λ p. ltb p (length (now marks))) (now order) ≡ true ⌝ }
-    ensures { λ r. ⌜ Kept (now (marks .entry)) (now (order .entry)) r (now (order .exit)) ⌝ }
+    ensures { λ r. ⌜ Kept (old marks) (old order) r (new order) ⌝ }
 {
     let mut kept = 0;
     let mut i = 0;
@@ -49,7 +50,7 @@ fn keep_linear(order: &mut [usize], marks: &[u8]) -> usize
 fn rank_names(order: &mut [usize], identifiers: &[u8], ends: &[usize], marks: &[u8]) -> Ranking
     requires { ⌜ endsWithin 0 (length (now identifiers)) (now ends) ≡ true ⌝ }
     requires { ⌜ (length (now order) ≡ length (now ends)) × ((length (now marks) ≡ length (now ends)) × (length (now ends) ≤ 4096)) ⌝ }
-    ensures { λ r. ⌜ NamesRanked (cut (now (ends .entry)) (now (identifiers .entry))) (now (marks .entry)) r (now (order .exit)) ⌝ }
+    ensures { λ r. ⌜ NamesRanked (cut (old ends) (old identifiers)) (old marks) r (new order) ⌝ }
 {
     if !order_names(order, identifiers, ends) {
         return Ranking::Refused(4);
@@ -67,7 +68,7 @@ pub fn rank_targets(
     marks: &[u8],
 ) -> Ranking
     requires { ⌜ 4096 ≤ length (now ranked) ⌝ }
-    ensures { λ r. ⌜ RankedAs (lentCatalogue (now (identifiers .entry)) (now («identifier_ends» .entry)) (now (bases .entry)) (now («base_ends» .entry)) (now (marks .entry))) r (now (ranked .exit)) ⌝ }
+    ensures { λ r. ⌜ RankedAs (lentCatalogue identifiers «identifier_ends» bases «base_ends» marks) r (new ranked) ⌝ }
 {
     if !in_bounds(identifiers, identifier_ends, bases, base_ends, marks) {
         return Ranking::Refused(2);

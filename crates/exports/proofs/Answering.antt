@@ -7,12 +7,12 @@ use lib.ListN.{length}
 use borrow.Author.Tests.{le-leb, lt-leb}
 use Rattle.catalogue.specs.Catalogue.{Catalogue}
 use Rattle.seeds.specs.Seeds.{keysOf, ranksOf, positionsOf, placed}
-use Rattle.postings.specs.Index.{index, buildRefusal}
+use Rattle.index.specs.Index.{index, buildRefusal}
 use Rattle.postings.specs.Answers.{planAnswer, planned, entries, builtRefusal, builtCount, leftIn, BuiltAs}
 use Rattle.postings.specs.declared.plan.IndexPlan.{IndexPlan}
 use Rattle.postings.specs.declared.plan.Built.{Built}
-use Rattle.indexed_mapper.specs.Answer.{Answer, answerOf, MapsTo}
-use Rattle.indexed_mapper.specs.declared.answer.MapAnswer.{MapAnswer}
+use Rattle.search.specs.Answer.{Answer, answerOf, MapsTo}
+use Rattle.search.specs.declared.answer.MapAnswer.{MapAnswer}
 use Rattle.indexed_mapper.proofs.Laws.{refusal-is}
 use Rattle.many_reads.specs.Reads.{rowOf}
 use Rattle.exports.specs.Exports.{planNumbers, buildNumbers, exportRefusal, answered, ExportsPlan, ExportsBuild, ExportsMap}

@@ -8,10 +8,10 @@ use lib.Dec.{leb}
 use Rattle.catalogue.specs.Refusal.{unless, _orElse_}
 use Rattle.catalogue.specs.Catalogue.{Catalogue}
 use Rattle.seeds.specs.Seeds.{keysOf, ranksOf, positionsOf, placed}
-use Rattle.postings.specs.Index.{index, buildRefusal}
+use Rattle.index.specs.Index.{index, buildRefusal}
 use Rattle.postings.specs.Answers.{planned, entries, leftIn, countUnless}
 use Rattle.scan.specs.Entries.{entryCount}
-use Rattle.indexed_mapper.specs.Answer.{mapRefusal, mapAnswer, mapEntries}
+use Rattle.search.specs.Answer.{mapRefusal, mapAnswer, mapEntries}
 use Rattle.many_reads.specs.Reads.{rowOf}
 
 -- ---- answers as numbers

@@ -4,14 +4,15 @@
 ghost use mathlib.Core.Path.{_≡_};
 ghost use Prim.Native.Nat.{_≤_};
 ghost use lib.ListN.{length};
+ghost use Rattle.lists.specs.Slice.{old, new};
 ghost use Rattle.catalogue.specs.Catalogue.{lentCatalogue};
 ghost use Rattle.seeds.specs.Seeds.{placed};
-ghost use Rattle.postings.specs.Index.{indexRefusal};
+ghost use Rattle.index.specs.Index.{indexRefusal};
 ghost use Rattle.postings.specs.Answers.{planAnswer, builtRefusal, builtCount};
-ghost use Rattle.indexed_mapper.specs.Answer.{answerOf};
+ghost use Rattle.search.specs.Answer.{answerOf};
 ghost use Rattle.many_reads.specs.Reads.{rowOf, MapsReads};
 ghost use Rattle.exports.specs.Exports.{planNumbers, buildNumbers, ExportsPlan, ExportsBuild, ExportsMap};
-use indexed_mapper::answer::MapAnswer;
+use search::answer::MapAnswer;
 use indexed_mapper::map::map;
 use many_reads::map_reads;
 use many_reads::write_row;
@@ -24,7 +25,7 @@ use postings::plan::plan;
 // Writes the answer of a plan, and returns its refusal.
 fn put_plan(answer: &mut [u64], planned: IndexPlan) -> u64
     requires { ⌜ 3 ≤ length (now answer) ⌝ }
-    ensures { λ r. ⌜ (r ≡ planAnswer planned .0) × (now (answer .exit) ≡ placed 0 (planNumbers (planAnswer planned)) (now (answer .entry))) ⌝ }
+    ensures { λ r. ⌜ (r ≡ planAnswer planned .0) × (new answer ≡ placed 0 (planNumbers (planAnswer planned)) (old answer)) ⌝ }
 {
     match planned {
         IndexPlan::Refused(n) => {
@@ -45,7 +46,7 @@ fn put_plan(answer: &mut [u64], planned: IndexPlan) -> u64
 // Writes the answer of a build, and returns its refusal.
 fn put_built(answer: &mut [u64], built: Built) -> u64
     requires { ⌜ 2 ≤ length (now answer) ⌝ }
-    ensures { λ r. ⌜ (r ≡ builtRefusal built) × (now (answer .exit) ≡ placed 0 (buildNumbers (builtRefusal built) (builtCount built)) (now (answer .entry))) ⌝ }
+    ensures { λ r. ⌜ (r ≡ builtRefusal built) × (new answer ≡ placed 0 (buildNumbers (builtRefusal built) (builtCount built)) (old answer)) ⌝ }
 {
     match built {
         Built::Refused(n) => {
@@ -64,7 +65,7 @@ fn put_built(answer: &mut [u64], built: Built) -> u64
 // Writes the answer of `map`, and returns its refusal.
 fn put_answer(answer: &mut [u64], mapped: MapAnswer) -> u64
     requires { ⌜ 8 ≤ length (now answer) ⌝ }
-    ensures { λ r. ⌜ (r ≡ answerOf mapped .refusal) × (now (answer .exit) ≡ placed 0 (rowOf (answerOf mapped)) (now (answer .entry))) ⌝ }
+    ensures { λ r. ⌜ (r ≡ answerOf mapped .refusal) × (new answer ≡ placed 0 (rowOf (answerOf mapped)) (old answer)) ⌝ }
 {
     write_row(answer, 0, mapped);
     answer[0]
@@ -81,7 +82,7 @@ pub extern "C" fn jekaumeo_plan(
     marks: &[u8],
     q: usize,
 ) -> u64
-    ensures { λ r. ⌜ ExportsPlan q (lentCatalogue (now (identifiers .entry)) (now («identifier_ends» .entry)) (now (bases .entry)) (now («base_ends» .entry)) (now (marks .entry))) r (now (answer .entry)) (now (answer .exit)) ⌝ }
+    ensures { λ r. ⌜ ExportsPlan q (lentCatalogue identifiers «identifier_ends» bases «base_ends» marks) r (old answer) (new answer) ⌝ }
 {
     if answer.len() < 3 {
         return 26;
@@ -104,7 +105,7 @@ pub extern "C" fn jekaumeo_build(
     marks: &[u8],
     q: usize,
 ) -> u64
-    ensures { λ r. ⌜ ExportsBuild q (lentCatalogue (now (identifiers .entry)) (now («identifier_ends» .entry)) (now (bases .entry)) (now («base_ends» .entry)) (now (marks .entry))) r (now (answer .entry)) (now (keys .entry)) (now (ranks .entry)) (now (positions .entry)) (now (answer .exit)) (now (keys .exit)) (now (ranks .exit)) (now (positions .exit)) ⌝ }
+    ensures { λ r. ⌜ ExportsBuild q (lentCatalogue identifiers «identifier_ends» bases «base_ends» marks) r (old answer) (old keys) (old ranks) (old positions) (new answer) (new keys) (new ranks) (new positions) ⌝ }
 {
     if answer.len() < 2 {
         return 26;
@@ -136,7 +137,7 @@ pub extern "C" fn jekaumeo_check_index(
     marks: &[u8],
     q: usize,
 ) -> u64
-    ensures { λ r. ⌜ r ≡ indexRefusal q (lentCatalogue (now (identifiers .entry)) (now («identifier_ends» .entry)) (now (bases .entry)) (now («base_ends» .entry)) (now (marks .entry))) (now (keys .entry)) (now (ranks .entry)) (now (positions .entry)) ⌝ }
+    ensures { λ r. ⌜ r ≡ indexRefusal q (lentCatalogue identifiers «identifier_ends» bases «base_ends» marks) (old keys) (old ranks) (old positions) ⌝ }
 {
     check_index(
         keys,
@@ -168,7 +169,7 @@ pub extern "C" fn jekaumeo_map(
     read: &[u8],
     limit: u64,
 ) -> u64
-    ensures { λ r. ⌜ ExportsMap q (lentCatalogue (now (identifiers .entry)) (now («identifier_ends» .entry)) (now (bases .entry)) (now («base_ends» .entry)) (now (marks .entry))) (now (keys .entry)) (now (ranks .entry)) (now (positions .entry)) (now (read .entry)) limit r (now (answer .entry)) (now (entries .entry)) (now (answer .exit)) (now (entries .exit)) ⌝ }
+    ensures { λ r. ⌜ ExportsMap q (lentCatalogue identifiers «identifier_ends» bases «base_ends» marks) (old keys) (old ranks) (old positions) (old read) limit r (old answer) (old entries) (new answer) (new entries) ⌝ }
 {
     if answer.len() < 8 {
         return 26;
@@ -208,7 +209,7 @@ pub extern "C" fn jekaumeo_map_reads(
     read_ends: &[usize],
     limit: u64,
 ) -> u64
-    ensures { λ r. ⌜ MapsReads q (lentCatalogue (now (identifiers .entry)) (now («identifier_ends» .entry)) (now (bases .entry)) (now («base_ends» .entry)) (now (marks .entry))) (now (keys .entry)) (now (ranks .entry)) (now (positions .entry)) limit (now (reads .entry)) (now («read_ends» .entry)) r (now (rows .entry)) (now (entries .entry)) (now (rows .exit)) (now (entries .exit)) ⌝ }
+    ensures { λ r. ⌜ MapsReads q (lentCatalogue identifiers «identifier_ends» bases «base_ends» marks) (old keys) (old ranks) (old positions) limit (old reads) (old «read_ends») r (old rows) (old entries) (new rows) (new entries) ⌝ }
 {
     map_reads(
         rows,

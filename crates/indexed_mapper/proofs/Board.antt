@@ -1,18 +1,18 @@
 -- The worked examples hold: each is computed.
 -- Assumes nothing.
 use mathlib.Core.Path.{refl}
-use Rattle.bases.specs.Base.{codeOf, complementOf, upperOf, isBase}
+use Rattle.bases.specs.Base.{codeOf, complementOf, upperOf, isCapital}
 use Rattle.bases.specs.Read.{reverseComplement}
 use Rattle.bases.specs.Eligibility.{eligibility}
 use Rattle.catalogue.specs.Catalogue.{inBounds, catalogueRefusal, mapped}
 use Rattle.seeds.specs.Key.{keyOf}
-use Rattle.postings.specs.Index.{indexOf, planRefusal, indexRefusal}
+use Rattle.index.specs.Index.{indexOf, planRefusal, indexRefusal}
 use Rattle.places.specs.Place.{places, matches, groups}
 use Rattle.candidates.specs.Search.{comparable}
-use Rattle.indexed_mapper.specs.Work.{work}
-use Rattle.indexed_mapper.specs.Answer.{readRefusal, mapRefusal}
+use Rattle.search.specs.Work.{work}
+use Rattle.search.specs.Answer.{readRefusal, mapRefusal}
 use Rattle.indexed_mapper.specs.Board.{examples, AllHold}
 
 pub board-holds : AllHold examples
-unfolding codeOf complementOf upperOf isBase reverseComplement eligibility inBounds catalogueRefusal mapped keyOf indexOf planRefusal indexRefusal places matches groups comparable work readRefusal mapRefusal
+unfolding codeOf complementOf upperOf isCapital reverseComplement eligibility inBounds catalogueRefusal mapped keyOf indexOf planRefusal indexRefusal places matches groups comparable work readRefusal mapRefusal
 board-holds = (refl, ((refl, refl), ((refl, refl), ((refl, refl), ((refl, refl), ((refl, refl), ((refl, refl), ((refl, refl), ((refl, refl), ((refl, refl), (refl, (refl, (refl, tt)))))))))))))

@@ -9,27 +9,27 @@ use native.Mathlib.Omega.{arith}
 use lib.ListN.{length, length-map}
 use lib.Dec.{ltb}
 use borrow.Author.Tests.{ne-eqb, lt-ltb, ltb-true}
-use Rattle.lists.specs.Keep.{every}
+use Rattle.lists.specs.Filter.{every}
 use Rattle.lists.specs.Member.{_∈_}
 use Rattle.lists.proofs.Cases.{by-test, same-test}
 use Rattle.lists.proofs.Reverse.{every-reverse}
 use Rattle.lists.proofs.Sort.{length-sort}
-use Rattle.bases.specs.Base.{complementOf, isBase}
+use Rattle.bases.specs.Base.{complementOf, isCapital}
 use Rattle.bases.specs.Read.{reverseComplement}
 use Rattle.bases.proofs.Bytes.{complement-twice}
 use Rattle.bases.proofs.Turning.{length-reverse-complement}
 use Rattle.catalogue.specs.Catalogue.{Catalogue}
 use Rattle.seeds.specs.Seeds.{placed}
-use Rattle.postings.specs.Index.{mappedSequences}
+use Rattle.index.specs.Index.{mappedSequences}
 use Rattle.places.specs.Place.{Place, Fits, matches, groups}
 use Rattle.places.proofs.Placing.{groups-∈, ∈-groups}
 use Rattle.places.proofs.Swapping.{groups-turned}
 use Rattle.candidates.proofs.Candidates.{comparable-fewer}
 use Rattle.scan.specs.Entries.{entriesOf, entryCount, cleared}
-use Rattle.indexed_mapper.specs.Work.{Work, noWork, work, scanWork}
-use Rattle.indexed_mapper.specs.Answer.{Answer, answerOf, stateOf, listed, accepted, answerUnless, entriesAfter, roomRefusal, readRefusal, mapRefusal, suppliedPlaces, SearchAnswered, MapsTo}
+use Rattle.search.specs.Work.{Work, noWork, work, scanWork}
+use Rattle.search.specs.Answer.{Answer, answerOf, stateOf, listed, accepted, answerUnless, entriesAfter, roomRefusal, readRefusal, mapRefusal, suppliedPlaces, SearchAnswered, MapsTo}
 use Rattle.indexed_mapper.specs.Laws.{Complete, SearchesAgree, TurnedAnswer}
-use Rattle.indexed_mapper.specs.declared.answer.MapAnswer.{MapAnswer}
+use Rattle.search.specs.declared.answer.MapAnswer.{MapAnswer}
 use Rattle.indexed_mapper.proofs.Mapping.{at-capitals}
 
 -- ---- one answer
@@ -163,15 +163,15 @@ module _ (ss : List (List ℕ)) (ranked read : List ℕ) (limit : ℕ) where
 
 -- ---- a read turned round
 
-base-complement : (b : ℕ) → isBase b ≡ true → isBase (complementOf b) ≡ true
-unfolding isBase complementOf
-base-complement = at-capitals (λ b. isBase (complementOf b)) refl refl refl refl
+base-complement : (b : ℕ) → isCapital b ≡ true → isCapital (complementOf b) ≡ true
+unfolding isCapital complementOf
+base-complement = at-capitals (λ b. isCapital (complementOf b)) refl refl refl refl
 
-capitals-turned : (bs : List ℕ) → every isBase (reverseComplement bs) ≡ every isBase bs
+capitals-turned : (bs : List ℕ) → every isCapital (reverseComplement bs) ≡ every isCapital bs
 unfolding reverseComplement
-capitals-turned bs = every-reverse isBase (map complementOf bs) ∙ go bs
+capitals-turned bs = every-reverse isCapital (map complementOf bs) ∙ go bs
   where
-    go : (l : List ℕ) → every isBase (map complementOf l) ≡ every isBase l
+    go : (l : List ℕ) → every isCapital (map complementOf l) ≡ every isCapital l
     go [] = refl
     go (b ∷ l) = ap₂ {C = Bool} (λ x y. x && y) (same-test (λ t. rw (complement-twice b) at (base-complement (complementOf b) t)) (base-complement b)) (go l)
 

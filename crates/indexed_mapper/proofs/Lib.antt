@@ -1,9 +1,3 @@
-pub mod Seeking
-pub mod Siding
-pub mod Merging
-pub mod Finding
-pub mod Readying
-pub mod Concluding
 pub mod Mapping
 pub mod Laws
 pub mod Board

@@ -8,7 +8,7 @@ use native.Mathlib.Omega.{arith}
 use lib.ListN.{length, take}
 use lib.Dec.{leb, ltb, eqb}
 use borrow.Author.Tests.{le-leb, lt-leb, leb-true, eqb-true, ne-eqb}
-use Rattle.lists.specs.Keep.{every}
+use Rattle.lists.specs.Filter.{every}
 use Rattle.lists.specs.Member.{_∈_}
 use Rattle.lists.specs.Same.{same}
 use Rattle.lists.proofs.Cases.{by-test, clash, and-true}
@@ -16,26 +16,26 @@ use Rattle.lists.proofs.Cut.{length-cut}
 use Rattle.lists.proofs.Every.{every-at, ∈-every}
 use Rattle.lists.proofs.Member.{map-∈}
 use Rattle.lists.proofs.Same.{same-true}
-use Rattle.bases.specs.Base.{A, C, G, T, isBase}
+use Rattle.bases.specs.Base.{A, C, G, T, isCapital}
 use Rattle.bases.proofs.Bytes.{letter-capital}
 use Rattle.catalogue.specs.Refusal.{unless, _orElse_}
-use Rattle.catalogue.specs.Name.{distinctNames}
+use Rattle.names.specs.Name.{distinctNames}
 use Rattle.catalogue.specs.Catalogue.{Catalogue, Target, Valid, names, sequences, mapped, inBounds, properSequence, catalogueRefusal}
 use Rattle.catalogue.specs.Ranking.{rankingRefusal, RanksOf}
 use Rattle.catalogue.specs.declared.ranks.Ranking.{Ranking}
 use Rattle.catalogue.specs.declared.ranks.Ranking.the-variants.{Refused, Ranked}
 use Rattle.catalogue.proofs.Mapped.{mapped-∈, at-its-place}
 use Rattle.seeds.specs.Seeds.{keysOf, ranksOf, positionsOf}
-use Rattle.postings.specs.Index.{indexOf, mappedSequences, rankedSequences, seedRight, planRefusal, indexRefusal, columnsOf, Lent, SeedLength, Indexed}
+use Rattle.index.specs.Index.{indexOf, mappedSequences, rankedSequences, seedRight, planRefusal, indexRefusal, columnsOf, Lent, SeedLength, Indexed}
 use Rattle.postings.specs.Answers.{PlanRanked}
 use Rattle.postings.proofs.Planning.{plan-right, no-refusal, ranked-mapped, test-refused}
 use Rattle.places.specs.Place.{Place, folded, groups}
 use Rattle.scan.specs.Entries.{entryCount}
-use Rattle.indexed_mapper.specs.Work.{Work, work}
-use Rattle.indexed_mapper.specs.Answer.{roomRefusal, maxRead, maxLimit, limitRight, readRefusal, mapRefusal, suppliedPlaces, Answered, MapsTo}
-use Rattle.indexed_mapper.specs.Steps.{IndexSearchable, Mappable}
-use Rattle.indexed_mapper.specs.declared.answer.MapAnswer.{MapAnswer}
-use Rattle.indexed_mapper.specs.declared.answer.MapAnswer.the-variants as answers
+use Rattle.search.specs.Work.{Work, work}
+use Rattle.search.specs.Answer.{roomRefusal, maxRead, maxLimit, limitRight, readRefusal, mapRefusal, suppliedPlaces, Answered, MapsTo}
+use Rattle.search.specs.Steps.{IndexSearchable, Mappable}
+use Rattle.search.specs.declared.answer.MapAnswer.{MapAnswer}
+use Rattle.search.specs.declared.answer.MapAnswer.the-variants as answers
 
 -- ---- refusals of a read and a limit
 
@@ -71,27 +71,27 @@ module _ (read : List ℕ) (limit : ℕ) where
       (λ e. rw e (omega arith))
 
   -- a read that is not refused
-  read-right : readRefusal read limit ≡ 0 → (length read ≤ maxRead) × (every isBase read ≡ true)
+  read-right : readRefusal read limit ≡ 0 → (length read ≤ maxRead) × (every isCapital read ≡ true)
   unfolding readRefusal
   read-right z =
       by-test (leb (length read) maxRead)
       (λ e. by-test (properSequence read)
-      (λ f. (leb-true (length read) maxRead e, and-true (ltb 0 (length read)) (every isBase read) f .1))
+      (λ f. (leb-true (length read) maxRead e, and-true (ltb 0 (length read)) (every isCapital read) f .1))
       (λ f. absurd (omega (arith, rw (e, f) at z))))
       (λ e. absurd (omega (arith, rw e at z)))
 
 -- a test that the four capitals pass
-pub at-capitals : (test : ℕ → Bool) → test A ≡ true → test C ≡ true → test G ≡ true → test T ≡ true → (b : ℕ) → isBase b ≡ true → test b ≡ true
-unfolding isBase
+pub at-capitals : (test : ℕ → Bool) → test A ≡ true → test C ≡ true → test G ≡ true → test T ≡ true → (b : ℕ) → isCapital b ≡ true → test b ≡ true
+unfolding isCapital
 at-capitals test a c g t b h =
     by-test (eqb b A) (λ e. rw (eqb-true b A e) a)
     (λ e. by-test (eqb b C) (λ f. rw (eqb-true b C f) c)
     (λ f. by-test (eqb b G) (λ k. rw (eqb-true b G k) g)
     (λ k. by-test (eqb b T) (λ l. rw (eqb-true b T l) t) (λ l. clash (rw (e, f, k, l) at h) refl))))
 
-letters-folded : (bs : List ℕ) → every isBase bs ≡ true → every isBase (folded bs) ≡ true
+letters-folded : (bs : List ℕ) → every isCapital bs ≡ true → every isCapital (folded bs) ≡ true
 letters-folded [] t = refl
-letters-folded (b ∷ bs) t = let u = and-true (isBase b) (every isBase bs) t in rw (letter-capital b (u .0)) (letters-folded bs (u .1))
+letters-folded (b ∷ bs) t = let u = and-true (isCapital b) (every isCapital bs) t in rw (letter-capital b (u .0)) (letters-folded bs (u .1))
 
 -- ---- the search of ranked sequences
 
@@ -107,7 +107,7 @@ module _ (q : ℕ) (ss : List (List ℕ)) (ks rs os : List ℕ) where
       }
 
 -- an index that was tested
-pub mappable : (q : ℕ) (bases ends ranked ks rs os : List ℕ) → Lent bases ends ranked → SeedLength q → every (λ (s : List ℕ). every isBase s) (rankedSequences bases ends ranked) ≡ true
+pub mappable : (q : ℕ) (bases ends ranked ks rs os : List ℕ) → Lent bases ends ranked → SeedLength q → every (λ (s : List ℕ). every isCapital s) (rankedSequences bases ends ranked) ≡ true
     → columnsOf (indexOf q (rankedSequences bases ends ranked)) ks rs os ≡ true → Mappable q bases ends ranked ks rs os
 mappable q bases ends ranked ks rs os l s c t = record { lent = l; capitals = c; seed = s; indexed = held-indexed q (rankedSequences bases ends ranked) ks rs os t }
 
@@ -163,18 +163,18 @@ plan-below q c =
 
 module _ (q : ℕ) (c : Catalogue) (r : Ranking) (buffer : List ℕ) (p : PlanRanked q c r buffer) where
   -- the sequences of a catalogue that is not refused are capitals
-  pub ranked-capitals : (k : ℕ) → r ≡ Ranked k → every (λ (s : List ℕ). every isBase s) (rankedSequences (c .bases) (c .baseEnds) (take k buffer)) ≡ true
-  ranked-capitals k e = rw (ranked-mapped q c r buffer p k e) (∈-every (λ (s : List ℕ). every isBase s) (mappedSequences c) proper)
+  pub ranked-capitals : (k : ℕ) → r ≡ Ranked k → every (λ (s : List ℕ). every isCapital s) (rankedSequences (c .bases) (c .baseEnds) (take k buffer)) ≡ true
+  ranked-capitals k e = rw (ranked-mapped q c r buffer p k e) (∈-every (λ (s : List ℕ). every isCapital s) (mappedSequences c) proper)
     where
       right : Valid c
       right = plan-right q c (no-refusal q c r buffer p k e) .1
 
-      proper : (s : List ℕ) → s ∈ mappedSequences c → every isBase s ≡ true
+      proper : (s : List ℕ) → s ∈ mappedSequences c → every isCapital s ≡ true
       proper s m =
           let w = map-∈ (λ (t : Target). t .bases) s (mapped c) m in
           let a = at-its-place c (right .bounds) (w .0) (mapped-∈ c (w .0) (w .1) .0) in
           let l = every-at properSequence [] (sequences c) (right .letters) (w .0 .place) (omega (arith, a .0, length-cut 0 (c .baseEnds) (c .bases))) in
-          and-true (ltb 0 (length s)) (every isBase s) (ap properSequence (w .2 ∙ a .1) ∙ l) .1
+          and-true (ltb 0 (length s)) (every isCapital s) (ap properSequence (w .2 ∙ a .1) ∙ l) .1
 
   module _ (ks rs os read : List ℕ) (limit : ℕ) (b : List ℕ) where
     pub map-refused : (n : ℕ) → r ≡ Refused n → MapsTo q c ks rs os read limit (answers.Refused n) b b

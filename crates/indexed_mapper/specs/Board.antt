@@ -8,10 +8,10 @@ use Rattle.bases.specs.Eligibility.{Verdict, refused, ineligible, eligibility}
 use Rattle.catalogue.specs.Catalogue.{Catalogue}
 use Rattle.columns.specs.Posting.{Posting, posting}
 use Rattle.seeds.specs.Seeds.{keysOf, ranksOf, positionsOf}
-use Rattle.postings.specs.Index.{index, mappedSequences}
+use Rattle.index.specs.Index.{index, mappedSequences}
 use Rattle.places.specs.Place.{Place, place, groups}
-use Rattle.indexed_mapper.specs.Work.{Work}
-use Rattle.indexed_mapper.specs.Answer.{Answer, mappedAs, listed, mapAnswer}
+use Rattle.search.specs.Work.{Work}
+use Rattle.search.specs.Answer.{Answer, mappedAs, listed, mapAnswer}
 
 pub data Example : Type 0 where
   -- the postings of the target

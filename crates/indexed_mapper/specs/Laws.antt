@@ -5,11 +5,11 @@ use Prim.Native.Nat.{ℕ, _≤_}
 use lib.ListN.{length}
 use Rattle.lists.specs.Sort.{sort}
 use Rattle.catalogue.specs.Catalogue.{Catalogue}
-use Rattle.postings.specs.Index.{mappedSequences}
+use Rattle.index.specs.Index.{mappedSequences}
 use Rattle.places.specs.Place.{before, groups, swapped}
 use Rattle.scan.specs.Entries.{entriesOf}
-use Rattle.indexed_mapper.specs.Answer.{answerOf, listed, entriesAfter, suppliedPlaces}
-use Rattle.indexed_mapper.specs.declared.answer.MapAnswer.{MapAnswer}
+use Rattle.search.specs.Answer.{answerOf, listed, entriesAfter, suppliedPlaces}
+use Rattle.search.specs.declared.answer.MapAnswer.{MapAnswer}
 
 -- every group is listed: neither refused nor indeterminate
 abbrev pub Complete : MapAnswer → Type 0

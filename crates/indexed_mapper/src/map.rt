@@ -2,26 +2,27 @@
 ghost use mathlib.Core.Path.{_≡_};
 ghost use mathlib.Core.Bool.{true};
 ghost use lib.ListN.{length};
-ghost use Rattle.lists.specs.Keep.{every};
-ghost use Rattle.bases.specs.Base.{isBase};
+ghost use Rattle.lists.specs.Filter.{every};
+ghost use Rattle.lists.specs.Slice.{old, new};
+ghost use Rattle.bases.specs.Base.{isCapital};
 ghost use Rattle.catalogue.specs.Refusal.{unless, _orElse_};
 ghost use Rattle.catalogue.specs.Catalogue.{lentCatalogue};
-ghost use Rattle.postings.specs.Index.{rankedSequences, indexOf, columnsOf, Lent, SeedLength};
+ghost use Rattle.index.specs.Index.{rankedSequences, indexOf, columnsOf, Lent, SeedLength, lentSequences};
 ghost use Rattle.places.specs.Place.{groups};
 ghost use Rattle.scan.specs.Entries.{entryCount};
-ghost use Rattle.indexed_mapper.specs.Work.{work};
-ghost use Rattle.indexed_mapper.specs.Answer.{readRefusal, roomRefusal, Answered, MapsTo};
-ghost use Rattle.indexed_mapper.specs.Steps.{Mappable};
-use crate::answer::MapAnswer;
-use crate::search::search;
+ghost use Rattle.search.specs.Work.{work};
+ghost use Rattle.search.specs.Answer.{readRefusal, roomRefusal, Answered, MapsTo};
+ghost use Rattle.search.specs.Steps.{Mappable};
+use search::answer::MapAnswer;
+use search::search::search;
 use catalogue::bounds::proper_sequence;
 use catalogue::ranks::Ranking;
-use postings::index::is_index;
+use index::test::is_index;
 use postings::plan::rank_checked;
 
 // Tests a read and a limit: refusals 7, 8 and 9, or 0.
 pub fn check_read(read: &[u8], limit: u64) -> u64
-    ensures { λ r. ⌜ r ≡ readRefusal (now (read .entry)) limit ⌝ }
+    ensures { λ r. ⌜ r ≡ readRefusal (old read) limit ⌝ }
 {
     if 65535 < read.len() {
         return 7;
@@ -52,7 +53,7 @@ pub fn map_read(
     limit: u64,
 ) -> MapAnswer
     requires { ⌜ Mappable q (now bases) (now ends) (now ranked) (now keys) (now ranks) (now positions) ⌝ }
-    ensures { λ r. ⌜ Answered (readRefusal (now (read .entry)) limit orElse roomRefusal (entryCount (now (entries .entry))) limit (length (groups (rankedSequences (now (bases .entry)) (now (ends .entry)) (now (ranked .entry))) (now (read .entry))))) (now (ranked .entry)) (length (now (read .entry))) limit (groups (rankedSequences (now (bases .entry)) (now (ends .entry)) (now (ranked .entry))) (now (read .entry))) (work q (rankedSequences (now (bases .entry)) (now (ends .entry)) (now (ranked .entry))) (now (read .entry)) limit) r (now (entries .entry)) (now (entries .exit)) ⌝ }
+    ensures { λ r. ⌜ Answered (readRefusal (old read) limit orElse roomRefusal (entryCount (old entries)) limit (length (groups (lentSequences bases ends ranked) (old read)))) (old ranked) (length (old read)) limit (groups (lentSequences bases ends ranked) (old read)) (work q (lentSequences bases ends ranked) (old read) limit) r (old entries) (new entries) ⌝ }
 {
     let refusal = check_read(read, limit);
     if refusal != 0 {
@@ -85,8 +86,8 @@ fn map_ranked(
     read: &[u8],
     limit: u64,
 ) -> MapAnswer
-    requires { ⌜ Lent (now bases) (now ends) (now ranked) × (SeedLength q × (every (λ s. every isBase s) (rankedSequences (now bases) (now ends) (now ranked)) ≡ true)) ⌝ }
-    ensures { λ r. ⌜ Answered (unless (columnsOf (indexOf q (rankedSequences (now (bases .entry)) (now (ends .entry)) (now (ranked .entry)))) (now (keys .entry)) (now (ranks .entry)) (now (positions .entry))) 6 orElse readRefusal (now (read .entry)) limit orElse roomRefusal (entryCount (now (entries .entry))) limit (length (groups (rankedSequences (now (bases .entry)) (now (ends .entry)) (now (ranked .entry))) (now (read .entry))))) (now (ranked .entry)) (length (now (read .entry))) limit (groups (rankedSequences (now (bases .entry)) (now (ends .entry)) (now (ranked .entry))) (now (read .entry))) (work q (rankedSequences (now (bases .entry)) (now (ends .entry)) (now (ranked .entry))) (now (read .entry)) limit) r (now (entries .entry)) (now (entries .exit)) ⌝ }
+    requires { ⌜ Lent (now bases) (now ends) (now ranked) × (SeedLength q × (every (λ s. every isCapital s) (rankedSequences (now bases) (now ends) (now ranked)) ≡ true)) ⌝ }
+    ensures { λ r. ⌜ Answered (unless (columnsOf (indexOf q (lentSequences bases ends ranked)) (old keys) (old ranks) (old positions)) 6 orElse readRefusal (old read) limit orElse roomRefusal (entryCount (old entries)) limit (length (groups (lentSequences bases ends ranked) (old read)))) (old ranked) (length (old read)) limit (groups (lentSequences bases ends ranked) (old read)) (work q (lentSequences bases ends ranked) (old read) limit) r (old entries) (new entries) ⌝ }
 {
     if !is_index(keys, ranks, positions, bases, ends, ranked, q) {
         return MapAnswer::Refused(6);
@@ -120,7 +121,7 @@ pub fn map(
     read: &[u8],
     limit: u64,
 ) -> MapAnswer
-    ensures { λ r. ⌜ MapsTo q (lentCatalogue (now (identifiers .entry)) (now («identifier_ends» .entry)) (now (bases .entry)) (now («base_ends» .entry)) (now (marks .entry))) (now (keys .entry)) (now (ranks .entry)) (now (positions .entry)) (now (read .entry)) limit r (now (entries .entry)) (now (entries .exit)) ⌝ }
+    ensures { λ r. ⌜ MapsTo q (lentCatalogue identifiers «identifier_ends» bases «base_ends» marks) (old keys) (old ranks) (old positions) (old read) limit r (old entries) (new entries) ⌝ }
 {
     let mut places = [0usize; 4096];
     let ranking = rank_checked(

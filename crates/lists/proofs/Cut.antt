@@ -10,7 +10,7 @@ use lib.ListN.{length, getD, drop, length-take, length-drop, drop-of-length-le}
 use lib.Seq.{drop-cons}
 use lib.Dec.{leb}
 use borrow.Author.Tests.{leb-true, le-leb, lt-leb}
-use Rattle.lists.specs.Keep.{every}
+use Rattle.lists.specs.Filter.{every}
 use Rattle.lists.specs.Cut.{window, cutFrom, cut, endsWithin}
 use Rattle.lists.proofs.Cases.{and-true}
 

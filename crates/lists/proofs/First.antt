@@ -6,7 +6,7 @@ use mathlib.Core.List.{List, [], _∷_}
 use Prim.Native.Nat.{ℕ, zero, suc, _+_, _<_}
 use native.Mathlib.Omega.{arith}
 use lib.ListN.{length, getD, drop}
-use Rattle.lists.specs.Keep.{keep, consIf}
+use Rattle.lists.specs.Filter.{filter, consIf}
 use Rattle.lists.specs.Limit.{goOn, stopped}
 
 module _ {A : Type 0} (p : A → Bool) (d : A) where
@@ -20,7 +20,7 @@ module _ {A : Type 0} (p : A → Bool) (d : A) where
   first-rest x xs k f = record { inside = omega (arith, f .inside); failing = λ i h. f .failing (suc i) (omega arith); passing = f .passing }
 
   -- it is kept first, and then what is kept of the elements behind it
-  pub first-kept : (xs : List A) (k : ℕ) → First xs k → keep p xs ≡ getD xs k d ∷ keep p (drop (suc k) xs)
+  pub first-kept : (xs : List A) (k : ℕ) → First xs k → filter p xs ≡ getD xs k d ∷ filter p (drop (suc k) xs)
   first-kept [] k f = absurd (omega (arith, f .inside))
   first-kept (x ∷ xs) zero f = rw (f .passing)
   first-kept (x ∷ xs) (suc k) f = rw (f .failing 0 (omega arith)) (first-kept xs k (first-rest x xs k f))
@@ -32,7 +32,7 @@ module _ {A : Type 0} (p : A → Bool) (d : A) where
   first-stopped (x ∷ xs) (suc k) n f = let e = f .failing 0 (omega arith) in let s = first-stopped xs k n (first-rest x xs k f) in rw e (omega (arith, s))
 
   -- no element passes
-  pub none-kept : (xs : List A) → ((i : ℕ) → i < length xs → p (getD xs i d) ≡ false) → keep p xs ≡ []
+  pub none-kept : (xs : List A) → ((i : ℕ) → i < length xs → p (getD xs i d) ≡ false) → filter p xs ≡ []
   none-kept [] h = refl
   none-kept (x ∷ xs) h = rw (h 0 (omega arith)) (none-kept xs (λ i l. h (suc i) (omega arith)))
 

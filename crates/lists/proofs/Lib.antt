@@ -1,7 +1,7 @@
 pub mod Cases
 pub mod Below
 pub mod Member
-pub mod Keep
+pub mod Filter
 pub mod Every
 pub mod Same
 pub mod Order

@@ -7,12 +7,12 @@ use mathlib.Core.List.{List, [], _∷_, _++_, map}
 use Prim.Native.Nat.{ℕ, zero, suc, _<_}
 use native.Mathlib.Omega.{arith}
 use lib.ListN.{length, getD}
-use Rattle.lists.specs.Keep.{keep, consIf}
+use Rattle.lists.specs.Filter.{filter, consIf}
 use Rattle.lists.specs.Member.{_∈_, Distinct}
 use Rattle.lists.specs.Order.{StrictOrder, Total, Apart, Ascending}
 use Rattle.lists.proofs.Cases.{by-test, clash}
 use Rattle.lists.proofs.Member.{append-∈, map-∈, getD-∈}
-use Rattle.lists.proofs.Keep.{keep-∈}
+use Rattle.lists.proofs.Filter.{filter-∈}
 
 -- an order of what f gives of elements orders the elements
 pub order-by : {A B : Type 0} {less : B → B → Bool} (f : A → B) → StrictOrder less → StrictOrder (λ (x y : A). less (f x) (f y))
@@ -24,12 +24,12 @@ module _ {A : Type 0} (less : A → A → Bool) where
   ascending-append (x ∷ xs) ys a b h =
       (λ y m. ⊎-elim (λ k. a .0 y k) (λ k. h x y (inl refl) k) (append-∈ y xs ys m), ascending-append xs ys (a .1) b (λ u v k l. h u v (inr k) l))
 
-  pub ascending-keep : (p : A → Bool) (xs : List A) → Ascending less xs → Ascending less (keep p xs)
-  ascending-keep p [] a = tt
-  ascending-keep p (x ∷ xs) a = go (p x) (ascending-keep p xs (a .1))
+  pub ascending-filter : (p : A → Bool) (xs : List A) → Ascending less xs → Ascending less (filter p xs)
+  ascending-filter p [] a = tt
+  ascending-filter p (x ∷ xs) a = go (p x) (ascending-filter p xs (a .1))
     where
-      go : (b : Bool) → Ascending less (keep p xs) → Ascending less (consIf b x (keep p xs))
-      go true k = (λ y m. a .0 y (keep-∈ p y xs m .0), k)
+      go : (b : Bool) → Ascending less (filter p xs) → Ascending less (consIf b x (filter p xs))
+      go true k = (λ y m. a .0 y (filter-∈ p y xs m .0), k)
       go false k = k
 
   -- what ascends is apart, by whatever order that agrees
@@ -38,12 +38,12 @@ module _ {A : Type 0} (less : A → A → Bool) where
   ascending-apart other h (x ∷ xs) a = (λ y m. h x y (a .0 y m), ascending-apart other h xs (a .1))
 
   -- what passes a test of elements that are apart is apart
-  pub apart-keep : (p : A → Bool) (xs : List A) → Apart less xs → Apart less (keep p xs)
-  apart-keep p [] a = tt
-  apart-keep p (x ∷ xs) a = go (p x) (apart-keep p xs (a .1))
+  pub apart-filter : (p : A → Bool) (xs : List A) → Apart less xs → Apart less (filter p xs)
+  apart-filter p [] a = tt
+  apart-filter p (x ∷ xs) a = go (p x) (apart-filter p xs (a .1))
     where
-      go : (b : Bool) → Apart less (keep p xs) → Apart less (consIf b x (keep p xs))
-      go true k = (λ y m. a .0 y (keep-∈ p y xs m .0), k)
+      go : (b : Bool) → Apart less (filter p xs) → Apart less (consIf b x (filter p xs))
+      go true k = (λ y m. a .0 y (filter-∈ p y xs m .0), k)
       go false k = k
 
   -- different elements of a total order are apart

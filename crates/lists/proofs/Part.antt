@@ -7,7 +7,7 @@ use mathlib.Core.List.{List, [], _∷_}
 use Prim.Native.Nat.{ℕ, zero, suc, _≤_}
 use native.Mathlib.Omega.{arith}
 use lib.ListN.{length}
-use Rattle.lists.specs.Keep.{keep, consIf}
+use Rattle.lists.specs.Filter.{filter, consIf}
 use Rattle.lists.specs.Member.{_∈_}
 use Rattle.lists.specs.Order.{StrictOrder, Ascending}
 use Rattle.lists.specs.Limit.{goOn, stopped}
@@ -21,10 +21,10 @@ pub data Thinned {A : Type 0} (p : A → Bool) : List A → List A → Type 0 wh
   take : {x : A} {cs xs : List A} → Thinned p cs xs → Thinned p (x ∷ cs) (x ∷ xs)
 
 module _ {A : Type 0} where
-  pub thinned-keep : {p : A → Bool} {cs xs : List A} → Thinned p cs xs → keep p cs ≡ keep p xs
-  thinned-keep done = refl
-  thinned-keep (leave e t) = rw e (thinned-keep t)
-  thinned-keep {p} (take {x = x} t) = ap (λ l. consIf (p x) x l) (thinned-keep t)
+  pub thinned-filter : {p : A → Bool} {cs xs : List A} → Thinned p cs xs → filter p cs ≡ filter p xs
+  thinned-filter done = refl
+  thinned-filter (leave e t) = rw e (thinned-filter t)
+  thinned-filter {p} (take {x = x} t) = ap (λ l. consIf (p x) x l) (thinned-filter t)
 
   goOn-le : (b : Bool) (n : ℕ) (k l : ℕ → List A) → ((m : ℕ) → length (k m) ≤ length (l m)) → length (goOn b n k) ≤ length (goOn b n l)
   goOn-le false n k l h = h n
@@ -72,8 +72,8 @@ module _ {A : Type 0} (less : A → A → Bool) (o : StrictOrder less) (p : A �
 
   module _ (xs cs : List A) (a : Ascending less cs) (b : Ascending less xs) (within : (z : A) → z ∈ cs → z ∈ xs) (holds : (z : A) → z ∈ xs → p z ≡ true → z ∈ cs) where
     -- it has the same matches
-    pub part-keep : keep p cs ≡ keep p xs
-    part-keep = thinned-keep (part-thinned xs cs a b within holds)
+    pub part-filter : filter p cs ≡ filter p xs
+    part-filter = thinned-filter (part-thinned xs cs a b within holds)
 
     -- a search of it looks at no more
     pub part-stopped : (n : ℕ) → length (stopped p cs n) ≤ length (stopped p xs n)

@@ -8,7 +8,7 @@ use Prim.Native.Nat.{ℕ, suc, _-_, _<_}
 use native.Mathlib.Omega.{arith}
 use lib.ListN.{length, getD, length-reverse, List·getD-append}
 use lib.Seq.{getD-at}
-use Rattle.lists.specs.Keep.{every}
+use Rattle.lists.specs.Filter.{every}
 use Rattle.lists.proofs.Cases.{compare}
 
 pub getD-reverse : {A : Type 0} (d : A) (l : List A) (i : ℕ) → i < length l → getD (reverse l) i d ≡ getD l (length l - suc i) d

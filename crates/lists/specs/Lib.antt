@@ -1,4 +1,4 @@
-pub mod Keep
+pub mod Filter
 pub mod Member
 pub mod Order
 pub mod Sort
@@ -6,3 +6,4 @@ pub mod Triple
 pub mod Limit
 pub mod Cut
 pub mod Same
+pub mod Slice

@@ -17,13 +17,13 @@ use Rattle.catalogue.specs.Catalogue.{Catalogue}
 use Rattle.catalogue.specs.Ranking.{RanksOf}
 use Rattle.catalogue.specs.declared.ranks.Ranking.{Ranking}
 use Rattle.catalogue.specs.declared.ranks.Ranking.the-variants.{Refused, Ranked}
-use Rattle.postings.specs.Index.{index, indexOf, mappedSequences, rankedSequences, indexRefusal, columnsOf}
+use Rattle.index.specs.Index.{index, indexOf, mappedSequences, rankedSequences, indexRefusal, columnsOf}
 use Rattle.postings.specs.Answers.{PlanRanked}
 use Rattle.postings.proofs.Planning.{no-refusal, ranked-mapped, test-refused}
 use Rattle.places.specs.Place.{groups}
 use Rattle.scan.specs.Entries.{entriesOf, entryCount}
-use Rattle.indexed_mapper.specs.Work.{work}
-use Rattle.indexed_mapper.specs.Answer.{answerUnless, accepted, listed, entriesAfter, maxLimit, limitRight, readRefusal, roomRefusal, mapRefusal, mapAnswer, mapEntries, suppliedPlaces}
+use Rattle.search.specs.Work.{work}
+use Rattle.search.specs.Answer.{answerUnless, accepted, listed, entriesAfter, maxLimit, limitRight, readRefusal, roomRefusal, mapRefusal, mapAnswer, mapEntries, suppliedPlaces}
 use Rattle.many_reads.specs.Reads.{rowOf, readsRight, listRefusal, readsRefusal, RankedMapped, RankedReads, MapsReads, ReadsMapped, readAnswer, readEntries, widthOf}
 
 -- ---- refusals of a limit and a list of reads

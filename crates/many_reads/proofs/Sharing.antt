@@ -20,9 +20,9 @@ use Rattle.seeds.proofs.Storing.{length-placed, placed-placed}
 use Rattle.places.specs.Place.{Place, groups}
 use Rattle.scan.specs.Entries.{entriesOf, entryCount, cleared}
 use Rattle.scan.proofs.Going.{length-entries}
-use Rattle.indexed_mapper.specs.Work.{work}
-use Rattle.indexed_mapper.specs.Answer.{Answer, Answered, answerOf, entriesAfter, listed, readRefusal, roomRefusal}
-use Rattle.indexed_mapper.specs.declared.answer.MapAnswer.{MapAnswer}
+use Rattle.search.specs.Work.{work}
+use Rattle.search.specs.Answer.{Answer, Answered, answerOf, entriesAfter, listed, readRefusal, roomRefusal}
+use Rattle.search.specs.declared.answer.MapAnswer.{MapAnswer}
 use Rattle.many_reads.specs.Reads.{rowOf, ReadsMapped, ShareMapped, RankedMapped, readAnswer, readEntries}
 
 -- ---- products

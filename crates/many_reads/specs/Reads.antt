@@ -9,12 +9,12 @@ use Rattle.lists.specs.Cut.{window, cut, endsWithin}
 use Rattle.catalogue.specs.Refusal.{unless, _orElse_}
 use Rattle.catalogue.specs.Catalogue.{Catalogue}
 use Rattle.seeds.specs.Seeds.{placed}
-use Rattle.postings.specs.Index.{indexOf, columnsOf, indexRefusal}
+use Rattle.index.specs.Index.{indexOf, columnsOf, indexRefusal}
 use Rattle.places.specs.Place.{groups}
 use Rattle.scan.specs.Entries.{entriesOf, entryCount}
-use Rattle.indexed_mapper.specs.Work.{work}
-use Rattle.indexed_mapper.specs.Answer.{Answer, answerOf, answerUnless, accepted, listed, entriesAfter, roomRefusal, limitRight, readRefusal, mapAnswer, mapEntries}
-use Rattle.indexed_mapper.specs.declared.answer.MapAnswer.{MapAnswer}
+use Rattle.search.specs.Work.{work}
+use Rattle.search.specs.Answer.{Answer, answerOf, answerUnless, accepted, listed, entriesAfter, roomRefusal, limitRight, readRefusal, mapAnswer, mapEntries}
+use Rattle.search.specs.declared.answer.MapAnswer.{MapAnswer}
 
 -- the row of an answer
 abbrev pub rowOf : Answer → List ℕ

@@ -3,30 +3,31 @@ ghost use mathlib.Core.Path.{_≡_};
 ghost use mathlib.Core.Bool.{true};
 ghost use Prim.Native.Nat.{_+_, _*_, _/_, _≤_};
 ghost use lib.ListN.{length};
-ghost use Rattle.lists.specs.Keep.{every};
+ghost use Rattle.lists.specs.Filter.{every};
 ghost use Rattle.lists.specs.Cut.{endsWithin};
-ghost use Rattle.bases.specs.Base.{isBase};
+ghost use Rattle.lists.specs.Slice.{old, new};
+ghost use Rattle.bases.specs.Base.{isCapital};
 ghost use Rattle.catalogue.specs.Catalogue.{lentCatalogue};
 ghost use Rattle.seeds.specs.Seeds.{placed};
-ghost use Rattle.postings.specs.Index.{rankedSequences, Lent, SeedLength};
-ghost use Rattle.indexed_mapper.specs.Answer.{answerOf};
-ghost use Rattle.indexed_mapper.specs.Steps.{Mappable};
+ghost use Rattle.index.specs.Index.{rankedSequences, Lent, SeedLength, lentSequences};
+ghost use Rattle.search.specs.Answer.{answerOf};
+ghost use Rattle.search.specs.Steps.{Mappable};
 ghost use Rattle.many_reads.specs.Reads.{rowOf, listRefusal, ShareMapped, RankedMapped, RankedReads, MapsReads};
 use catalogue::bounds::ends_within;
-use catalogue::names::sequence_at;
+use names::sequences::sequence_at;
 use catalogue::ranks::Ranking;
-use indexed_mapper::answer::MapAnswer;
-use indexed_mapper::answer::Mapping;
-use indexed_mapper::answer::state_number;
+use search::answer::MapAnswer;
+use search::answer::Mapping;
+use search::answer::state_number;
 use indexed_mapper::map::map_read;
-use postings::index::is_index;
+use index::test::is_index;
 use postings::plan::rank_checked;
 use scan::entries::write_four;
 
 // Writes the row of a refusal.
 fn write_refused(rows: &mut [u64], at: usize, n: u64)
     requires { ⌜ at + 8 ≤ length (now rows) ⌝ }
-    ensures { λ _. ⌜ now (rows .exit) ≡ placed at (rowOf (answerOf (MapAnswer.Refused n))) (now (rows .entry)) ⌝ }
+    ensures { λ _. ⌜ new rows ≡ placed at (rowOf (answerOf (MapAnswer.Refused n))) (old rows) ⌝ }
 {
     write_four(rows, at, n, 0, 0, 0);
     write_four(rows, at + 4, 0, 0, 0, 0);
@@ -35,7 +36,7 @@ fn write_refused(rows: &mut [u64], at: usize, n: u64)
 // Writes the row of a mapped read.
 fn write_mapped(rows: &mut [u64], at: usize, m: Mapping)
     requires { ⌜ at + 8 ≤ length (now rows) ⌝ }
-    ensures { λ _. ⌜ now (rows .exit) ≡ placed at (rowOf (answerOf (MapAnswer.Mapped m))) (now (rows .entry)) ⌝ }
+    ensures { λ _. ⌜ new rows ≡ placed at (rowOf (answerOf (MapAnswer.Mapped m))) (old rows) ⌝ }
 {
     let state = m.state;
     let work = m.work;
@@ -60,7 +61,7 @@ fn write_mapped(rows: &mut [u64], at: usize, m: Mapping)
 // Writes the row of an answer: refusal, state, groups, lookups, hits, examined, comparisons, seen.
 pub fn write_row(rows: &mut [u64], at: usize, answer: MapAnswer)
     requires { ⌜ at + 8 ≤ length (now rows) ⌝ }
-    ensures { λ _. ⌜ now (rows .exit) ≡ placed at (rowOf (answerOf answer)) (now (rows .entry)) ⌝ }
+    ensures { λ _. ⌜ new rows ≡ placed at (rowOf (answerOf answer)) (old rows) ⌝ }
 {
     match answer {
         MapAnswer::Refused(n) => write_refused(rows, at, n),
@@ -84,7 +85,7 @@ fn map_share(
     limit: u64,
 ) -> MapAnswer
     requires { ⌜ Mappable q (now bases) (now ends) (now ranked) (now keys) (now ranks) (now positions) × (from + width ≤ length (now entries)) ⌝ }
-    ensures { λ r. ⌜ ShareMapped q (rankedSequences (now (bases .entry)) (now (ends .entry)) (now (ranked .entry))) (now (ranked .entry)) (now (read .entry)) limit from width r (now (entries .entry)) (now (entries .exit)) ⌝ }
+    ensures { λ r. ⌜ ShareMapped q (lentSequences bases ends ranked) (old ranked) (old read) limit from width r (old entries) (new entries) ⌝ }
 {
     let end = from + width;
     map_read(
@@ -119,7 +120,7 @@ fn map_shares(
 )
     requires { ⌜ Mappable q (now bases) (now ends) (now ranked) (now keys) (now ranks) (now positions) × (endsWithin 0 (length (now reads)) (now «read_ends») ≡ true) ⌝ }
     requires { ⌜ (length (now rows) ≡ 8 * length (now «read_ends»)) × (4 * share * length (now «read_ends») ≤ length (now entries)) ⌝ }
-    ensures { λ _. ⌜ RankedMapped q (rankedSequences (now (bases .entry)) (now (ends .entry)) (now (ranked .entry))) (now (ranked .entry)) limit (now (reads .entry)) (now («read_ends» .entry)) share (now (rows .exit)) (now (entries .entry)) (now (entries .exit)) ⌝ }
+    ensures { λ _. ⌜ RankedMapped q (lentSequences bases ends ranked) (old ranked) limit (old reads) (old «read_ends») share (new rows) (old entries) (new entries) ⌝ }
 {
     let mut i = 0;
     while i < read_ends.len() {
@@ -146,7 +147,7 @@ fn map_shares(
 
 // Tests a limit and a list of reads: refusals 9 and 25, or 0.
 fn check_reads(reads: &[u8], read_ends: &[usize], rows: usize, limit: u64) -> u64
-    ensures { λ r. ⌜ r ≡ listRefusal limit (now (reads .entry)) (now («read_ends» .entry)) rows ⌝ }
+    ensures { λ r. ⌜ r ≡ listRefusal limit (old reads) (old «read_ends») rows ⌝ }
 {
     if limit < 1 {
         return 9;
@@ -191,8 +192,8 @@ fn map_ranked_reads(
     read_ends: &[usize],
     limit: u64,
 ) -> u64
-    requires { ⌜ Lent (now bases) (now ends) (now ranked) × (SeedLength q × (every (λ s. every isBase s) (rankedSequences (now bases) (now ends) (now ranked)) ≡ true)) ⌝ }
-    ensures { λ r. ⌜ RankedReads q (rankedSequences (now (bases .entry)) (now (ends .entry)) (now (ranked .entry))) (now (ranked .entry)) (now (keys .entry)) (now (ranks .entry)) (now (positions .entry)) limit (now (reads .entry)) (now («read_ends» .entry)) r (now (rows .entry)) (now (entries .entry)) (now (rows .exit)) (now (entries .exit)) ⌝ }
+    requires { ⌜ Lent (now bases) (now ends) (now ranked) × (SeedLength q × (every (λ s. every isCapital s) (rankedSequences (now bases) (now ends) (now ranked)) ≡ true)) ⌝ }
+    ensures { λ r. ⌜ RankedReads q (lentSequences bases ends ranked) (old ranked) (old keys) (old ranks) (old positions) limit (old reads) (old «read_ends») r (old rows) (old entries) (new rows) (new entries) ⌝ }
 {
     if !is_index(keys, ranks, positions, bases, ends, ranked, q) {
         return 6;
@@ -238,7 +239,7 @@ pub fn map_reads(
     read_ends: &[usize],
     limit: u64,
 ) -> u64
-    ensures { λ r. ⌜ MapsReads q (lentCatalogue (now (identifiers .entry)) (now («identifier_ends» .entry)) (now (bases .entry)) (now («base_ends» .entry)) (now (marks .entry))) (now (keys .entry)) (now (ranks .entry)) (now (positions .entry)) limit (now (reads .entry)) (now («read_ends» .entry)) r (now (rows .entry)) (now (entries .entry)) (now (rows .exit)) (now (entries .exit)) ⌝ }
+    ensures { λ r. ⌜ MapsReads q (lentCatalogue identifiers «identifier_ends» bases «base_ends» marks) (old keys) (old ranks) (old positions) limit (old reads) (old «read_ends») r (old rows) (old entries) (new rows) (new entries) ⌝ }
 {
     let mut places = [0usize; 4096];
     let ranking = rank_checked(

@@ -9,13 +9,13 @@ use native.Mathlib.Numerals.{add-one}
 use lib.ListN.{length, getD, drop, length-map, length-drop}
 use lib.Seq.{take-all, getD-drop}
 use lib.Dec.{eqb}
-use Rattle.lists.specs.Keep.{every}
+use Rattle.lists.specs.Filter.{every}
 use Rattle.lists.specs.Same.{same}
 use Rattle.lists.specs.Cut.{window}
 use Rattle.lists.proofs.Every.{every-at}
 use Rattle.lists.proofs.Places.{getD-map}
 use Rattle.lists.proofs.Same.{same-next, differ-next}
-use Rattle.bases.specs.Base.{isBase, codeOf, upperOf}
+use Rattle.bases.specs.Base.{isCapital, codeOf, upperOf}
 use Rattle.bases.specs.Read.{oriented}
 use Rattle.bases.proofs.Bytes.{code-upper, codes-decide}
 use Rattle.bases.proofs.Turning.{folded-turned, letters-turned, length-oriented}
@@ -27,7 +27,7 @@ pub oriented-folded : (s : ℕ) (read : List ℕ) → oriented s (folded read) �
 oriented-folded zero read = refl
 oriented-folded (suc s) read = sym (folded-turned read)
 
-oriented-letters : (s : ℕ) (read : List ℕ) → every isBase (folded read) ≡ true → every isBase (folded (oriented s read)) ≡ true
+oriented-letters : (s : ℕ) (read : List ℕ) → every isCapital (folded read) ≡ true → every isCapital (folded (oriented s read)) ≡ true
 oriented-letters zero read t = t
 oriented-letters (suc s) read t = letters-turned read ∙ t
 
@@ -58,12 +58,12 @@ module _ (s : List ℕ) (start : ℕ) (read : List ℕ) (strand : ℕ) where
     unfolding y
     at-o = ap (λ l. getD l i 0) (oriented-folded strand read) ∙ getD-map upperOf 0 0 (oriented strand read) i (omega (arith, length-oriented strand read))
 
-    base-s : isBase x ≡ true
+    base-s : isCapital x ≡ true
     unfolding x
-    base-s = every-at isBase 0 s (laid .capitals) (start + i) (omega (arith, laid .fits))
+    base-s = every-at isCapital 0 s (laid .capitals) (start + i) (omega (arith, laid .fits))
 
-    base-o : isBase (upperOf y) ≡ true
-    base-o = ap isBase (sym at-o) ∙ every-at isBase 0 (oriented strand (folded read)) (ap (every isBase) (oriented-folded strand read) ∙ oriented-letters strand read (laid .letters)) i inside-o
+    base-o : isCapital (upperOf y) ≡ true
+    base-o = ap isCapital (sym at-o) ∙ every-at isCapital 0 (oriented strand (folded read)) (ap (every isCapital) (oriented-folded strand read) ∙ oriented-letters strand read (laid .letters)) i inside-o
 
     pub compared-next : standsTo (i + 1) s start read strand ≡ (standsTo i s start read strand && eqb (codeOf (getD s (start + i) 0)) (codeOf (getD (oriented strand read) i 0)))
     unfolding x y

@@ -7,13 +7,13 @@ use mathlib.Core.List.{List, [], _∷_, _++_}
 use Prim.Native.Nat.{ℕ, zero, suc, _+_, _-_, _<_, _≤_}
 use native.Mathlib.Omega.{arith}
 use lib.ListN.{length, getD}
-use Rattle.lists.specs.Keep.{keep}
+use Rattle.lists.specs.Filter.{filter}
 use Rattle.lists.specs.Member.{_∈_}
 use Rattle.lists.specs.Order.{StrictOrder, Total, Ascending}
 use Rattle.lists.proofs.Cases.{compare}
 use Rattle.lists.proofs.Member.{∈-append-left, ∈-append-right, append-∈}
-use Rattle.lists.proofs.Keep.{∈-keep, keep-∈}
-use Rattle.lists.proofs.Order.{order-by, ascending-append, ascending-keep}
+use Rattle.lists.proofs.Filter.{∈-filter, filter-∈}
+use Rattle.lists.proofs.Order.{order-by, ascending-append, ascending-filter}
 use Rattle.lists.proofs.Triple.{before-test, lexicographic-order, lexicographic-total}
 use Rattle.seeds.specs.Seeds.{starts}
 use Rattle.places.specs.Place.{Place, Fits, place, triple, before, placesIn, placesFrom, places, matches, groups}
@@ -112,12 +112,12 @@ module _ (ss : List (List ℕ)) (read : List ℕ) where
   -- the groups are exactly the fitting places where the read matches, each once, ascending
   pub groups-∈ : (p : Place) → p ∈ groups ss read → Fits (length read) ss p × (matches ss read p ≡ true)
   unfolding groups
-  groups-∈ p m = let k = keep-∈ (matches ss read) p (places (length read) ss) m in (places-∈ (length read) ss p (k .0), k .1)
+  groups-∈ p m = let k = filter-∈ (matches ss read) p (places (length read) ss) m in (places-∈ (length read) ss p (k .0), k .1)
 
   pub ∈-groups : (p : Place) → Fits (length read) ss p → matches ss read p ≡ true → p ∈ groups ss read
   unfolding groups
-  ∈-groups p f m = ∈-keep (matches ss read) p (places (length read) ss) (∈-places (length read) ss p f) m
+  ∈-groups p f m = ∈-filter (matches ss read) p (places (length read) ss) (∈-places (length read) ss p f) m
 
   pub groups-ascending : Ascending before (groups ss read)
   unfolding groups
-  groups-ascending = ascending-keep before (matches ss read) (places (length read) ss) (places-ascending (length read) ss)
+  groups-ascending = ascending-filter before (matches ss read) (places (length read) ss) (places-ascending (length read) ss)

@@ -4,11 +4,11 @@ use mathlib.Core.Bool.{Bool, true}
 use mathlib.Core.List.{List, [], _∷_, _++_, map}
 use Prim.Native.Nat.{ℕ, zero, suc, _+_, _-_, _≤_, _<_}
 use lib.ListN.{length, getD, take}
-use Rattle.lists.specs.Keep.{keep, every}
+use Rattle.lists.specs.Filter.{filter, every}
 use Rattle.lists.specs.Same.{same}
 use Rattle.lists.specs.Triple.{Triple, lexicographic}
 use Rattle.lists.specs.Cut.{window}
-use Rattle.bases.specs.Base.{upperOf, isBase}
+use Rattle.bases.specs.Base.{upperOf, isCapital}
 use Rattle.bases.specs.Read.{oriented}
 use Rattle.seeds.specs.Seeds.{starts}
 
@@ -55,8 +55,8 @@ folded read = map upperOf read
 -- a read of letters in either case laid at a start of a sequence of capitals, within it
 pub record Laid (s : List ℕ) (start : ℕ) (read : List ℕ) : Type 0 where
   pub fits : start + length read ≤ length s
-  pub capitals : every isBase s ≡ true
-  pub letters : every isBase (folded read) ≡ true
+  pub capitals : every isCapital s ≡ true
+  pub letters : every isCapital (folded read) ≡ true
 
 -- the first i bases of a read, in upper case and as it lies on a strand, stand at a start of a sequence
 abbrev pub standsTo : ℕ → List ℕ → ℕ → List ℕ → ℕ → Bool
@@ -68,7 +68,7 @@ matches ss read p = same (window (getD ss (p .rank) []) (p .start) (length read)
 
 -- every place where the read matches, ascending
 unfoldable pub groups : List (List ℕ) → List ℕ → List Place
-groups ss read = keep (matches ss read) (places (length read) ss)
+groups ss read = filter (matches ss read) (places (length read) ss)
 
 -- the same place on the other strand
 abbrev pub swapped : Place → Place

@@ -5,6 +5,7 @@ ghost use Prim.Native.Nat.{_<_, _≤_};
 ghost use lib.ListN.{length};
 ghost use Rattle.lists.specs.Same.{same};
 ghost use Rattle.lists.specs.Cut.{window};
+ghost use Rattle.lists.specs.Slice.{old};
 ghost use Rattle.bases.specs.Read.{oriented};
 ghost use Rattle.places.specs.Place.{folded, Laid, standsTo};
 use bases::strand::oriented_agrees;
@@ -24,7 +25,7 @@ fn stretch_agrees(
 ) -> bool
     requires { ⌜ Laid (now sequence) start (now read) ⌝ }
     requires { ⌜ (from ≤ end) × ((end ≤ length (now read)) × (standsTo from (now sequence) start (now read) strand ≡ true)) ⌝ }
-    ensures { λ r. ⌜ r ≡ standsTo end (now (sequence .entry)) start (now (read .entry)) strand ⌝ }
+    ensures { λ r. ⌜ r ≡ standsTo end (old sequence) start (old read) strand ⌝ }
 {
     let mut agree = true;
     let mut i = from;
@@ -38,7 +39,7 @@ fn stretch_agrees(
 // Whether a read stands at a start of a sequence, which has capitals; the read has letters in either case.
 pub fn stands_at(sequence: &[u8], start: usize, read: &[u8], strand: u64) -> bool
     requires { ⌜ Laid (now sequence) start (now read) ⌝ }
-    ensures { λ r. ⌜ r ≡ same (window (now (sequence .entry)) start (length (now (read .entry)))) (oriented strand (folded (now (read .entry)))) ⌝ }
+    ensures { λ r. ⌜ r ≡ same (window (old sequence) start (length (old read))) (oriented strand (folded (old read))) ⌝ }
 {
     let mut i = 0;
     while STRETCH <= read.len() - i {

@@ -1,6 +1,1 @@
-pub mod Sequencing
-pub mod Sorting
-pub mod Indexing
-pub mod Testing
 pub mod Planning
-pub mod Searching

@@ -10,7 +10,7 @@ use Rattle.catalogue.specs.Ranking.{rankingRefusal, RanksIn}
 use Rattle.catalogue.specs.declared.ranks.Ranking.{Ranking}
 use Rattle.columns.specs.Posting.{Posting}
 use Rattle.seeds.specs.Seeds.{keysOf, ranksOf, positionsOf}
-use Rattle.postings.specs.Index.{index, planRefusal, buildRefusal}
+use Rattle.index.specs.Index.{index, planRefusal, buildRefusal}
 use Rattle.postings.specs.declared.plan.IndexPlan.{IndexPlan}
 use Rattle.postings.specs.declared.plan.IndexPlan.the-variants as plans
 use Rattle.postings.specs.declared.plan.Built.{Built}

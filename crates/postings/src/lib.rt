@@ -1,7 +1,2 @@
-// The index of a catalogue: planned, built, tested and looked up.
-pub mod build;
-pub mod index;
-pub mod lookup;
+// The public calls on an index: planned, built and tested.
 pub mod plan;
-pub mod ranked;
-pub mod read;

@@ -2,12 +2,13 @@
 ghost use mathlib.Core.Path.{_≡_};
 ghost use Prim.Native.Nat.{_≤_};
 ghost use lib.ListN.{length};
+ghost use Rattle.lists.specs.Slice.{old, new};
 ghost use Rattle.catalogue.specs.Catalogue.{lentCatalogue};
-ghost use Rattle.postings.specs.Index.{Lent, SeedLength, rankedSequences, indexOf, indexRefusal};
+ghost use Rattle.index.specs.Index.{Lent, SeedLength, indexOf, indexRefusal, lentSequences};
 ghost use Rattle.postings.specs.Answers.{planAnswer, planned, PlanRanked, BuiltAs, BuiltFrom};
-use crate::build::build_index;
-use crate::index::is_index;
-use crate::ranked::count_postings;
+use index::build::build_index;
+use index::test::is_index;
+use index::ranked::count_postings;
 use catalogue::ranks::Ranking;
 use catalogue::ranks::rank_targets;
 
@@ -39,7 +40,7 @@ pub fn rank_checked(
     q: usize,
 ) -> Ranking
     requires { ⌜ 4096 ≤ length (now ranked) ⌝ }
-    ensures { λ r. ⌜ PlanRanked q (lentCatalogue (now (identifiers .entry)) (now («identifier_ends» .entry)) (now (bases .entry)) (now («base_ends» .entry)) (now (marks .entry))) r (now (ranked .exit)) ⌝ }
+    ensures { λ r. ⌜ PlanRanked q (lentCatalogue identifiers «identifier_ends» bases «base_ends» marks) r (new ranked) ⌝ }
 {
     if q < 1 {
         return Ranking::Refused(1);
@@ -66,7 +67,7 @@ pub fn plan(
     marks: &[u8],
     q: usize,
 ) -> IndexPlan
-    ensures { λ r. ⌜ planAnswer r ≡ planned q (lentCatalogue (now (identifiers .entry)) (now («identifier_ends» .entry)) (now (bases .entry)) (now («base_ends» .entry)) (now (marks .entry))) ⌝ }
+    ensures { λ r. ⌜ planAnswer r ≡ planned q (lentCatalogue identifiers «identifier_ends» bases «base_ends» marks) ⌝ }
 {
     let mut places = [0usize; 4096];
     let ranking = rank_checked(
@@ -98,7 +99,7 @@ fn build_ranked(
     q: usize,
 ) -> Built
     requires { ⌜ Lent (now bases) (now ends) (now ranked) × SeedLength q ⌝ }
-    ensures { λ r. ⌜ BuiltFrom (indexOf q (rankedSequences (now (bases .entry)) (now (ends .entry)) (now (ranked .entry)))) r (now (keys .entry)) (now (ranks .entry)) (now (positions .entry)) (now (keys .exit)) (now (ranks .exit)) (now (positions .exit)) ⌝ }
+    ensures { λ r. ⌜ BuiltFrom (indexOf q (lentSequences bases ends ranked)) r (old keys) (old ranks) (old positions) (new keys) (new ranks) (new positions) ⌝ }
 {
     let n = count_postings(bases, ends, ranked, q);
     if keys.len() < n {
@@ -127,7 +128,7 @@ pub fn build(
     marks: &[u8],
     q: usize,
 ) -> Built
-    ensures { λ r. ⌜ BuiltAs q (lentCatalogue (now (identifiers .entry)) (now («identifier_ends» .entry)) (now (bases .entry)) (now («base_ends» .entry)) (now (marks .entry))) r (now (keys .entry)) (now (ranks .entry)) (now (positions .entry)) (now (keys .exit)) (now (ranks .exit)) (now (positions .exit)) ⌝ }
+    ensures { λ r. ⌜ BuiltAs q (lentCatalogue identifiers «identifier_ends» bases «base_ends» marks) r (old keys) (old ranks) (old positions) (new keys) (new ranks) (new positions) ⌝ }
 {
     let mut places = [0usize; 4096];
     let ranking = rank_checked(
@@ -165,7 +166,7 @@ pub fn check_index(
     marks: &[u8],
     q: usize,
 ) -> u64
-    ensures { λ r. ⌜ r ≡ indexRefusal q (lentCatalogue (now (identifiers .entry)) (now («identifier_ends» .entry)) (now (bases .entry)) (now («base_ends» .entry)) (now (marks .entry))) (now (keys .entry)) (now (ranks .entry)) (now (positions .entry)) ⌝ }
+    ensures { λ r. ⌜ r ≡ indexRefusal q (lentCatalogue identifiers «identifier_ends» bases «base_ends» marks) (old keys) (old ranks) (old positions) ⌝ }
 {
     let mut places = [0usize; 4096];
     let ranking = rank_checked(

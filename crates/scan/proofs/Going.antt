@@ -7,10 +7,10 @@ use Prim.Native.Nat.{ℕ, zero, suc, _+_, _-_, _*_, _≤_, _<_}
 use native.Mathlib.Omega.{arith}
 use lib.ListN.{length, getD, take, length-append, length-take}
 use lib.Seq.{take-all, take-append-add}
-use Rattle.lists.specs.Keep.{keep}
+use Rattle.lists.specs.Filter.{filter}
 use Rattle.lists.specs.Limit.{stopped}
-use Rattle.lists.proofs.Keep.{keep-append}
-use Rattle.lists.proofs.Limit.{keep-stopped, length-stopped, stopped-whole, stopped-append, stopped-front}
+use Rattle.lists.proofs.Filter.{filter-append}
+use Rattle.lists.proofs.Limit.{filter-stopped, length-stopped, stopped-whole, stopped-append, stopped-front}
 use Rattle.seeds.specs.Seeds.{placed}
 use Rattle.seeds.proofs.Storing.{placed-none, length-placed, placed-placed}
 use Rattle.places.specs.Place.{Place, matches}
@@ -82,29 +82,29 @@ module _ (ss : List (List ℕ)) (ranked read : List ℕ) (bound : ℕ) where
       at (suc k) = placed-none (4 * seen) buffer
 
   module _ (xs : List Place) (comparisons seen : ℕ) (buffer : List ℕ) (comparisons′ seen′ : ℕ) (buffer′ : List ℕ) (within : seen ≤ bound) (s : Searched ss ranked read bound xs comparisons seen buffer comparisons′ seen′ buffer′) where
-    kept : length (keep (matches ss read) (looked ss read bound xs seen)) ≡ length (take (suc (bound - seen)) (keep (matches ss read) xs))
-    kept = ap length (keep-stopped (matches ss read) xs (bound - seen))
+    kept : length (filter (matches ss read) (looked ss read bound xs seen)) ≡ length (take (suc (bound - seen)) (filter (matches ss read) xs))
+    kept = ap length (filter-stopped (matches ss read) xs (bound - seen))
 
-    few : seen′ ≤ bound → length (keep (matches ss read) xs) ≤ bound - seen
-    few h = omega (arith, s .seen-are, kept, length-take (suc (bound - seen)) (keep (matches ss read) xs))
+    few : seen′ ≤ bound → length (filter (matches ss read) xs) ≤ bound - seen
+    few h = omega (arith, s .seen-are, kept, length-take (suc (bound - seen)) (filter (matches ss read) xs))
 
-    many : bound < seen′ → bound - seen < length (keep (matches ss read) xs)
-    many h = omega (arith, s .seen-are, kept, length-take (suc (bound - seen)) (keep (matches ss read) xs))
+    many : bound < seen′ → bound - seen < length (filter (matches ss read) xs)
+    many h = omega (arith, s .seen-are, kept, length-take (suc (bound - seen)) (filter (matches ss read) xs))
 
     -- a search that is not stopped looked at the whole list
     pub searched-whole : seen′ ≤ bound → looked ss read bound xs seen ≡ xs
     searched-whole h = stopped-whole (matches ss read) xs (bound - seen) (few h)
 
-    pub searched-seen : seen′ ≤ bound → seen′ ≡ seen + length (keep (matches ss read) xs)
-    searched-seen h = s .seen-are ∙ ap (λ l. seen + length (keep (matches ss read) l)) (searched-whole h)
+    pub searched-seen : seen′ ≤ bound → seen′ ≡ seen + length (filter (matches ss read) xs)
+    searched-seen h = s .seen-are ∙ ap (λ l. seen + length (filter (matches ss read) l)) (searched-whole h)
 
     pub searched-bounded : comparisons′ ≤ comparisons + length xs
     searched-bounded = omega (arith, s .comparisons-are, length-stopped (matches ss read) xs (bound - seen))
 
     pub searched-length : 4 * bound ≤ length buffer → length buffer′ ≡ length buffer
     searched-length room =
-        ap length (s .content) ∙ length-placed (4 * seen) (entriesOf ranked (length read) (take (bound - seen) (keep (matches ss read) (looked ss read bound xs seen)))) buffer
-        (omega (arith, length-entries ranked (length read) (take (bound - seen) (keep (matches ss read) (looked ss read bound xs seen))), length-take (bound - seen) (keep (matches ss read) (looked ss read bound xs seen))))
+        ap length (s .content) ∙ length-placed (4 * seen) (entriesOf ranked (length read) (take (bound - seen) (filter (matches ss read) (looked ss read bound xs seen)))) buffer
+        (omega (arith, length-entries ranked (length read) (take (bound - seen) (filter (matches ss read) (looked ss read bound xs seen))), length-take (bound - seen) (filter (matches ss read) (looked ss read bound xs seen))))
 
     -- a stopped search of a list is one of any longer list
     pub searched-stop : bound < seen′ → (ys : List Place) → Searched ss ranked read bound (xs ++ ys) comparisons seen buffer comparisons′ seen′ buffer′
@@ -123,14 +123,14 @@ module _ (ss : List (List ℕ)) (ranked read : List ℕ) (bound : ℕ) where
     searched-on h room ys comparisons″ seen″ buffer″ t =
         record {
           comparisons-are = rw both (omega (arith, length-append xs behind, ap length (searched-whole h), s .comparisons-are, t .comparisons-are));
-          seen-are = rw (both, keep-append) (omega (arith, length-append (keep (matches ss read) xs) (keep (matches ss read) behind), searched-seen h, t .seen-are));
-          content = rw (both, keep-append) (t .content ∙ ap (λ b. placed (4 * seen′) (rows later) b) first ∙ at);
+          seen-are = rw (both, filter-append) (omega (arith, length-append (filter (matches ss read) xs) (filter (matches ss read) behind), searched-seen h, t .seen-are));
+          content = rw (both, filter-append) (t .content ∙ ap (λ b. placed (4 * seen′) (rows later) b) first ∙ at);
         }
       where
         behind : List Place
         behind = looked ss read bound ys seen′
 
-        left : bound - seen - length (keep (matches ss read) xs) ≡ bound - seen′
+        left : bound - seen - length (filter (matches ss read) xs) ≡ bound - seen′
         left = omega (arith, searched-seen h)
 
         both : stopped (matches ss read) (xs ++ ys) (bound - seen) ≡ xs ++ behind
@@ -140,24 +140,24 @@ module _ (ss : List (List ℕ)) (ranked read : List ℕ) (bound : ℕ) where
         rows ps = entriesOf ranked (length read) ps
 
         earlier : List Place
-        earlier = keep (matches ss read) xs
+        earlier = filter (matches ss read) xs
 
         later : List Place
-        later = take (bound - seen′) (keep (matches ss read) behind)
+        later = take (bound - seen′) (filter (matches ss read) behind)
 
         first : buffer′ ≡ placed (4 * seen) (rows earlier) buffer
-        first = s .content ∙ ap (λ l. placed (4 * seen) (rows (take (bound - seen) (keep (matches ss read) l))) buffer) (searched-whole h) ∙ ap (λ l. placed (4 * seen) (rows l) buffer) (take-all (bound - seen) earlier (few h))
+        first = s .content ∙ ap (λ l. placed (4 * seen) (rows (take (bound - seen) (filter (matches ss read) l))) buffer) (searched-whole h) ∙ ap (λ l. placed (4 * seen) (rows l) buffer) (take-all (bound - seen) earlier (few h))
 
-        joined : take (bound - seen) (earlier ++ keep (matches ss read) behind) ≡ earlier ++ later
-        joined = let e : length earlier + (bound - seen′) ≡ bound - seen = omega (arith, searched-seen h) in ap (λ n. take n (earlier ++ keep (matches ss read) behind)) (sym e) ∙ take-append-add earlier (keep (matches ss read) behind) (bound - seen′)
+        joined : take (bound - seen) (earlier ++ filter (matches ss read) behind) ≡ earlier ++ later
+        joined = let e : length earlier + (bound - seen′) ≡ bound - seen = omega (arith, searched-seen h) in ap (λ n. take n (earlier ++ filter (matches ss read) behind)) (sym e) ∙ take-append-add earlier (filter (matches ss read) behind) (bound - seen′)
 
         there : 4 * seen′ ≡ 4 * seen + length (rows earlier)
         there = omega (arith, searched-seen h, length-entries ranked (length read) earlier)
 
-        at : placed (4 * seen′) (rows later) (placed (4 * seen) (rows earlier) buffer) ≡ placed (4 * seen) (rows (take (bound - seen) (earlier ++ keep (matches ss read) behind))) buffer
+        at : placed (4 * seen′) (rows later) (placed (4 * seen) (rows earlier) buffer) ≡ placed (4 * seen) (rows (take (bound - seen) (earlier ++ filter (matches ss read) behind))) buffer
         at =
             ap (λ k. placed k (rows later) (placed (4 * seen) (rows earlier) buffer)) there
-            ∙ placed-placed (4 * seen) (rows earlier) buffer (rows later) (omega (arith, searched-seen h, length-entries ranked (length read) earlier, length-entries ranked (length read) later, length-take (bound - seen′) (keep (matches ss read) behind)))
+            ∙ placed-placed (4 * seen) (rows earlier) buffer (rows later) (omega (arith, searched-seen h, length-entries ranked (length read) earlier, length-entries ranked (length read) later, length-take (bound - seen′) (filter (matches ss read) behind)))
             ∙ ap (λ l. placed (4 * seen) l buffer) (sym (entries-append ranked (length read) earlier later))
             ∙ ap (λ l. placed (4 * seen) (rows l) buffer) (sym joined)
 

@@ -6,15 +6,15 @@ use mathlib.Core.List.{List, [], _∷_}
 use Prim.Native.Nat.{ℕ, _+_, _≤_, _<_}
 use native.Mathlib.Omega.{arith}
 use lib.ListN.{length, getD}
-use Rattle.lists.specs.Keep.{every}
+use Rattle.lists.specs.Filter.{every}
 use Rattle.lists.specs.Same.{same}
 use Rattle.lists.specs.Cut.{window}
 use Rattle.lists.proofs.Every.{every-at}
-use Rattle.bases.specs.Base.{isBase}
+use Rattle.bases.specs.Base.{isCapital}
 use Rattle.bases.specs.Read.{oriented}
 use Rattle.catalogue.specs.Catalogue.{maxBases}
-use Rattle.postings.specs.Index.{rankedSequences}
-use Rattle.postings.proofs.Sequencing.{ranked-many, ranked-length}
+use Rattle.index.specs.Index.{rankedSequences}
+use Rattle.index.proofs.Sequencing.{ranked-many, ranked-length}
 use Rattle.places.specs.Place.{Place, place, Fits, folded, matches}
 use Rattle.scan.specs.Searched.{Searchable, Going, Searched}
 use Rattle.scan.proofs.Going.{searched-stop, searched-on, progress-going}
@@ -33,8 +33,8 @@ module _ (bases ends ranked read : List ℕ) (s : Searchable bases ends ranked r
     pub fit-inside : p .start + length read ≤ length sequence
     fit-inside = omega (arith, f .inside, ap length e)
 
-    pub fit-capitals : every isBase sequence ≡ true
-    fit-capitals = ap (every isBase) e ∙ every-at (λ (l : List ℕ). every isBase l) [] (rankedSequences bases ends ranked) (s .capitals) (p .rank) (f .ranked)
+    pub fit-capitals : every isCapital sequence ≡ true
+    fit-capitals = ap (every isCapital) e ∙ every-at (λ (l : List ℕ). every isCapital l) [] (rankedSequences bases ends ranked) (s .capitals) (p .rank) (f .ranked)
 
     -- what a comparison with the sequence tells
     pub fit-matches : (b : Bool) → b ≡ same (window sequence (p .start) (length read)) (oriented (p .strand) (folded read)) → matches (rankedSequences bases ends ranked) read p ≡ b

@@ -4,19 +4,19 @@ use mathlib.Core.Bool.{true}
 use mathlib.Core.List.{List}
 use Prim.Native.Nat.{ℕ, _+_, _-_, _*_, _≤_}
 use lib.ListN.{length, take}
-use Rattle.lists.specs.Keep.{keep, every}
+use Rattle.lists.specs.Filter.{filter, every}
 use Rattle.lists.specs.Limit.{stopped}
-use Rattle.bases.specs.Base.{isBase}
+use Rattle.bases.specs.Base.{isCapital}
 use Rattle.seeds.specs.Seeds.{placed}
-use Rattle.postings.specs.Index.{rankedSequences, Lent}
+use Rattle.index.specs.Index.{rankedSequences, Lent}
 use Rattle.places.specs.Place.{Place, folded, matches}
 use Rattle.scan.specs.Entries.{entriesOf}
 
 -- what a search is lent: sequences of capitals by rank, and a read of letters in either case within its bound
 pub record Searchable (bases ends ranked read : List ℕ) : Type 0 where
   pub lent : Lent bases ends ranked
-  pub capitals : every (λ (s : List ℕ). every isBase s) (rankedSequences bases ends ranked) ≡ true
-  pub letters : every isBase (folded read) ≡ true
+  pub capitals : every (λ (s : List ℕ). every isCapital s) (rankedSequences bases ends ranked) ≡ true
+  pub letters : every isCapital (folded read) ≡ true
   pub short : length read ≤ 65535
 
 -- a search under way: its matches are within the bound, the entries have room for as many as the bound, and at least
@@ -34,5 +34,5 @@ looked ss read bound xs seen = stopped (matches ss read) xs (bound - seen)
 -- entries behind those of the matches before
 pub record Searched (ss : List (List ℕ)) (ranked read : List ℕ) (bound : ℕ) (xs : List Place) (comparisons seen : ℕ) (buffer : List ℕ) (comparisons′ seen′ : ℕ) (buffer′ : List ℕ) : Type 0 where
   pub comparisons-are : comparisons′ ≡ comparisons + length (looked ss read bound xs seen)
-  pub seen-are : seen′ ≡ seen + length (keep (matches ss read) (looked ss read bound xs seen))
-  pub content : buffer′ ≡ placed (4 * seen) (entriesOf ranked (length read) (take (bound - seen) (keep (matches ss read) (looked ss read bound xs seen)))) buffer
+  pub seen-are : seen′ ≡ seen + length (filter (matches ss read) (looked ss read bound xs seen))
+  pub content : buffer′ ≡ placed (4 * seen) (entriesOf ranked (length read) (take (bound - seen) (filter (matches ss read) (looked ss read bound xs seen)))) buffer

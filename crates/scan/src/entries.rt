@@ -3,13 +3,14 @@ ghost use mathlib.Core.Path.{_≡_};
 ghost use mathlib.Core.List.{_∷_, []};
 ghost use Prim.Native.Nat.{_+_, _*_, _≤_};
 ghost use lib.ListN.{length};
+ghost use Rattle.lists.specs.Slice.{old, new};
 ghost use Rattle.seeds.specs.Seeds.{placed};
 ghost use Rattle.scan.specs.Entries.{entryOf, cleared};
 
 // Writes four numbers from a place on.
 pub fn write_four(buffer: &mut [u64], at: usize, a: u64, b: u64, c: u64, d: u64)
     requires { ⌜ at + 4 ≤ length (now buffer) ⌝ }
-    ensures { λ _. ⌜ now (buffer .exit) ≡ placed at (a ∷ b ∷ c ∷ d ∷ []) (now (buffer .entry)) ⌝ }
+    ensures { λ _. ⌜ new buffer ≡ placed at (a ∷ b ∷ c ∷ d ∷ []) (old buffer) ⌝ }
 {
     buffer[at] = a;
     buffer[at + 1] = b;
@@ -27,7 +28,7 @@ pub fn write_entry(
     strand: u64,
 )
     requires { ⌜ 4 * k + 4 ≤ length (now entries) ⌝ }
-    ensures { λ _. ⌜ now (entries .exit) ≡ placed (4 * k) (entryOf target start end strand) (now (entries .entry)) ⌝ }
+    ensures { λ _. ⌜ new entries ≡ placed (4 * k) (entryOf target start end strand) (old entries) ⌝ }
 {
     write_four(
         entries,
@@ -41,7 +42,7 @@ pub fn write_entry(
 
 // Sets every entry to zero. Numbers behind the last whole entry stay.
 pub fn clear_entries(entries: &mut [u64])
-    ensures { λ _. ⌜ now (entries .exit) ≡ cleared (now (entries .entry)) ⌝ }
+    ensures { λ _. ⌜ new entries ≡ cleared (old entries) ⌝ }
 {
     let n = entries.len() / 4 * 4;
     let mut i = 0;

@@ -3,13 +3,14 @@ ghost use mathlib.Core.Path.{_≡_};
 ghost use mathlib.Core.List.{_∷_, []};
 ghost use Prim.Native.Nat.{_<_};
 ghost use lib.ListN.{length, getD};
+ghost use Rattle.lists.specs.Slice.{old, new};
 ghost use Rattle.seeds.specs.Seeds.{starts};
-ghost use Rattle.postings.specs.Index.{rankedSequences};
+ghost use Rattle.index.specs.Index.{rankedSequences, lentSequences};
 ghost use Rattle.places.specs.Place.{place, Fits, placesIn, places};
 ghost use Rattle.scan.specs.Searched.{Searchable, Going, Searched};
 use crate::visit::Tally;
 use crate::visit::visit;
-use postings::ranked::ranked_sequence;
+use index::ranked::ranked_sequence;
 
 // Both strands at a start.
 fn visit_both(
@@ -24,7 +25,7 @@ fn visit_both(
     tally: Tally,
 ) -> Tally
     requires { ⌜ Searchable (now bases) (now ends) (now ranked) (now read) × (Fits (length (now read)) (rankedSequences (now bases) (now ends) (now ranked)) (place rank start 0) × Going bound 2 (tally .comparisons) (tally .seen) (now entries)) ⌝ }
-    ensures { λ r. ⌜ Searched (rankedSequences (now (bases .entry)) (now (ends .entry)) (now (ranked .entry))) (now (ranked .entry)) (now (read .entry)) bound (place rank start 0 ∷ place rank start 1 ∷ []) (tally .comparisons) (tally .seen) (now (entries .entry)) (r .comparisons) (r .seen) (now (entries .exit)) ⌝ }
+    ensures { λ r. ⌜ Searched (lentSequences bases ends ranked) (old ranked) (old read) bound (place rank start 0 ∷ place rank start 1 ∷ []) (tally .comparisons) (tally .seen) (old entries) (r .comparisons) (r .seen) (new entries) ⌝ }
 {
     let forward = visit(
         entries,
@@ -67,7 +68,7 @@ fn scan_sequence(
     tally: Tally,
 ) -> Tally
     requires { ⌜ Searchable (now bases) (now ends) (now ranked) (now read) × ((rank < length (now ranked)) × Going bound 33554434 (tally .comparisons) (tally .seen) (now entries)) ⌝ }
-    ensures { λ r. ⌜ Searched (rankedSequences (now (bases .entry)) (now (ends .entry)) (now (ranked .entry))) (now (ranked .entry)) (now (read .entry)) bound (placesIn rank 0 (starts (length (now (read .entry))) (getD (rankedSequences (now (bases .entry)) (now (ends .entry)) (now (ranked .entry))) rank []))) (tally .comparisons) (tally .seen) (now (entries .entry)) (r .comparisons) (r .seen) (now (entries .exit)) ⌝ }
+    ensures { λ r. ⌜ Searched (lentSequences bases ends ranked) (old ranked) (old read) bound (placesIn rank 0 (starts (length (old read)) (getD (lentSequences bases ends ranked) rank []))) (tally .comparisons) (tally .seen) (old entries) (r .comparisons) (r .seen) (new entries) ⌝ }
 {
     let sequence = ranked_sequence(bases, ends, ranked, rank);
     let mut start = 0;
@@ -102,7 +103,7 @@ pub fn scan(
     bound: usize,
 ) -> Tally
     requires { ⌜ Searchable (now bases) (now ends) (now ranked) (now read) × Going bound 0 0 0 (now entries) ⌝ }
-    ensures { λ r. ⌜ Searched (rankedSequences (now (bases .entry)) (now (ends .entry)) (now (ranked .entry))) (now (ranked .entry)) (now (read .entry)) bound (places (length (now (read .entry))) (rankedSequences (now (bases .entry)) (now (ends .entry)) (now (ranked .entry)))) 0 0 (now (entries .entry)) (r .comparisons) (r .seen) (now (entries .exit)) ⌝ }
+    ensures { λ r. ⌜ Searched (lentSequences bases ends ranked) (old ranked) (old read) bound (places (length (old read)) (lentSequences bases ends ranked)) 0 0 (old entries) (r .comparisons) (r .seen) (new entries) ⌝ }
 {
     let mut tally = Tally {
         comparisons: 0,

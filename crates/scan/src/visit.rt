@@ -2,12 +2,13 @@
 ghost use mathlib.Core.Path.{_≡_};
 ghost use mathlib.Core.List.{_∷_, []};
 ghost use lib.ListN.{length};
-ghost use Rattle.postings.specs.Index.{rankedSequences};
+ghost use Rattle.lists.specs.Slice.{old, new};
+ghost use Rattle.index.specs.Index.{rankedSequences, lentSequences};
 ghost use Rattle.places.specs.Place.{place, Fits};
 ghost use Rattle.scan.specs.Searched.{Searchable, Going, Searched};
 use crate::entries::write_entry;
 use places::stands_at;
-use postings::ranked::ranked_sequence;
+use index::ranked::ranked_sequence;
 
 // The places compared so far, and the matches among them.
 pub struct Tally {
@@ -29,7 +30,7 @@ pub fn visit(
     tally: Tally,
 ) -> Tally
     requires { ⌜ Searchable (now bases) (now ends) (now ranked) (now read) × (Fits (length (now read)) (rankedSequences (now bases) (now ends) (now ranked)) (place rank start strand) × Going bound 1 (tally .comparisons) (tally .seen) (now entries)) ⌝ }
-    ensures { λ r. ⌜ Searched (rankedSequences (now (bases .entry)) (now (ends .entry)) (now (ranked .entry))) (now (ranked .entry)) (now (read .entry)) bound (place rank start strand ∷ []) (tally .comparisons) (tally .seen) (now (entries .entry)) (r .comparisons) (r .seen) (now (entries .exit)) ⌝ }
+    ensures { λ r. ⌜ Searched (lentSequences bases ends ranked) (old ranked) (old read) bound (place rank start strand ∷ []) (tally .comparisons) (tally .seen) (old entries) (r .comparisons) (r .seen) (new entries) ⌝ }
 {
     let comparisons = tally.comparisons + 1;
     let seen = tally.seen;

@@ -9,11 +9,11 @@ use native.Mathlib.Numerals.{add-one, sub-one}
 use native.Mathlib.Omega.{arith}
 use lib.ListN.{length, getD, drop, length-append, length-drop}
 use lib.Seq.{take-suc, drop-cons, getD-drop}
-use Rattle.lists.specs.Keep.{every}
+use Rattle.lists.specs.Filter.{every}
 use Rattle.lists.specs.Cut.{window}
 use Rattle.lists.proofs.Cases.{and-true}
 use Rattle.lists.proofs.Cut.{length-window}
-use Rattle.bases.specs.Base.{codeOf, upperOf, isBase}
+use Rattle.bases.specs.Base.{codeOf, upperOf, isCapital}
 use Rattle.bases.specs.Read.{oriented}
 use Rattle.bases.proofs.Bytes.{code-le, letter-low}
 use Rattle.bases.proofs.Turning.{length-oriented}
@@ -33,11 +33,11 @@ key-loose [] = omega arith
 key-loose (x ∷ w) = omega (arith, key-loose w, mul-le-mul-right (4 ^ length w) (code-le x), pow-suc 4 (length w))
 
 -- the key of q letters is below 4 to the power q
-pub key-below : (w : List ℕ) → every (λ b. isBase (upperOf b)) w ≡ true → keyOf w < 4 ^ length w
+pub key-below : (w : List ℕ) → every (λ b. isCapital (upperOf b)) w ≡ true → keyOf w < 4 ^ length w
 unfolding keyOf
 key-below [] h = omega arith
 key-below (x ∷ w) h =
-    let a = and-true (isBase (upperOf x)) (every (λ b. isBase (upperOf b)) w) h in
+    let a = and-true (isCapital (upperOf x)) (every (λ b. isCapital (upperOf b)) w) h in
     let c : codeOf x ≤ 3 = omega (arith, letter-low x (a .0)) in
     omega (arith, key-below w (a .1), mul-le-mul-right (4 ^ length w) c, pow-suc 4 (length w))
 

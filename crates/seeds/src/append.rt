@@ -3,6 +3,7 @@ ghost use mathlib.Core.Path.{_≡_};
 ghost use Prim.Native.Nat.{_+_, _-_, _^_, _≤_};
 ghost use lib.ListN.{length, set};
 ghost use Rattle.lists.specs.Cut.{window};
+ghost use Rattle.lists.specs.Slice.{old, new};
 ghost use Rattle.seeds.specs.Key.{keyOf, SeedIn};
 ghost use Rattle.seeds.specs.Seeds.{starts, seeds, Stored, Room};
 use crate::keys::key_at;
@@ -20,7 +21,7 @@ fn put(
     position: usize,
 )
     requires { ⌜ Room at 1 (now keys) (now ranks) (now positions) ⌝ }
-    ensures { λ _. ⌜ (now (keys .exit) ≡ set (now (keys .entry)) at key) × (now (ranks .exit) ≡ set (now (ranks .entry)) at rank) × (now (positions .exit) ≡ set (now (positions .entry)) at position) ⌝ }
+    ensures { λ _. ⌜ (new keys ≡ set (old keys) at key) × (new ranks ≡ set (old ranks) at rank) × (new positions ≡ set (old positions) at position) ⌝ }
 {
     keys[at] = key;
     ranks[at] = rank;
@@ -31,7 +32,7 @@ fn put(
 fn key_on(sequence: &[u8], q: usize, start: usize, high: u64, key: u64) -> u64
     requires { ⌜ SeedIn (length (now sequence)) q start ⌝ }
     requires { ⌜ (high ≡ 4 ^ (q - 1)) × (key ≡ keyOf (window (now sequence) (start - 1) q)) ⌝ }
-    ensures { λ r. ⌜ r ≡ keyOf (window (now (sequence .entry)) start q) ⌝ }
+    ensures { λ r. ⌜ r ≡ keyOf (window (old sequence) start q) ⌝ }
 {
     if start == 0 {
         return key;
@@ -51,8 +52,8 @@ pub fn append_postings(
 ) -> usize
     requires { ⌜ (1 ≤ q) × (q ≤ 31) ⌝ }
     requires { ⌜ Room at (starts q (now sequence)) (now keys) (now ranks) (now positions) ⌝ }
-    ensures { λ r. ⌜ r ≡ at + starts q (now (sequence .entry)) ⌝ }
-    ensures { λ r. ⌜ Stored at (seeds q rank (now (sequence .entry))) (now (keys .entry)) (now (ranks .entry)) (now (positions .entry)) (now (keys .exit)) (now (ranks .exit)) (now (positions .exit)) ⌝ }
+    ensures { λ r. ⌜ r ≡ at + starts q (old sequence) ⌝ }
+    ensures { λ r. ⌜ Stored at (seeds q rank (old sequence)) (old keys) (old ranks) (old positions) (new keys) (new ranks) (new positions) ⌝ }
 {
     if sequence.len() < q {
         return at;

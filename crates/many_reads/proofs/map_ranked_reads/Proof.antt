@@ -3,7 +3,7 @@
 use mathlib.Core.Path.{sym, _∙_}
 use lib.ListN.{length}
 use borrow.Author.Tests.{not-true, not-false}
-use Rattle.postings.specs.Index.{rankedSequences}
+use Rattle.index.specs.Index.{rankedSequences}
 use Rattle.indexed_mapper.proofs.Mapping.{mappable}
 use Rattle.many_reads.proofs.Listing.{list-fits, shares-fit, columns-wrong, list-refused, list-mapped}
 use borrow.Author.Needs.{needs}

@@ -2,7 +2,7 @@
 -- Assumes nothing.
 use Prim.Native.Nat.{_+_, _-_}
 use native.Mathlib.Omega.{arith}
-use Rattle.postings.specs.Index.{rankedSequences}
+use Rattle.index.specs.Index.{rankedSequences}
 use Rattle.many_reads.proofs.Sharing.{part-mapped}
 use borrow.Author.Needs.{needs}
 use Rattle.many_reads.proofs.map_share.Statement.{statement}

@@ -4,7 +4,7 @@ use native.Mathlib.Omega.{arith}
 use Prim.Native.Nat.{_-_}
 use lib.ListN.{length}
 use borrow.Author.Needs.{needs}
-use Rattle.postings.specs.Index.{rankedSequences}
+use Rattle.index.specs.Index.{rankedSequences}
 use Rattle.many_reads.proofs.Sharing.{RankedShares, shares-start, shares-row, shares-share, shares-next, shares-end}
 use Rattle.many_reads.proofs.map_shares.Statement.{statement}
 use Rattle.many_reads.proofs.map_shares.Tie as tie

@@ -5,7 +5,7 @@ use mathlib.Core.Bool.{_&&_}
 use Prim.Native.Nat.{_-_, _≤_}
 use native.Mathlib.Omega.{arith}
 use Rattle.lists.proofs.Every.{every-at}
-use Rattle.bases.specs.Base.{isBase}
+use Rattle.bases.specs.Base.{isCapital}
 use Rattle.bases.proofs.Bytes.{letter-capital}
 use Rattle.places.specs.Place.{standsTo}
 use Rattle.places.proofs.Comparing.{compared-next}
@@ -30,7 +30,7 @@ shared-slice-read-oriented-agrees c = omega (arith, c .before .loop-test .taken,
 oriented-agrees-requires : tie.Need-oriented-agrees-requires Inv-loop μ-loop
 oriented-agrees-requires c κs =
     let s = c .before .before .before .before .before in
-    (omega (arith, c .before .loop-test .taken, s .pre .1 .1 .0), (letter-capital _ (every-at isBase 0 (s .args .sequence .now) (s .pre .0 .capitals) _ (omega (arith, c .before .loop-test .taken, s .pre .0 .fits, s .pre .1 .1 .0))), s .pre .0 .letters))
+    (omega (arith, c .before .loop-test .taken, s .pre .1 .1 .0), (letter-capital _ (every-at isCapital 0 (s .args .sequence .now) (s .pre .0 .capitals) _ (omega (arith, c .before .loop-test .taken, s .pre .0 .fits, s .pre .1 .1 .0))), s .pre .0 .letters))
 
 add-i : tie.Need-add-i Inv-loop μ-loop
 add-i c = omega arith

@@ -6,14 +6,14 @@ use mathlib.Core.Path.{_≡_, refl, sym, _∙_}
 use Prim.Native.Nat.{_≤_, _-_}
 use lib.ListN.{length, drop}
 use borrow.Author.Tests.{not-true, not-false}
-use Rattle.lists.specs.Keep.{every}
+use Rattle.lists.specs.Filter.{every}
 use Rattle.lists.proofs.Every.{every-fails, every-passes, every-end}
-use Rattle.bases.specs.Base.{isBase}
+use Rattle.bases.specs.Base.{isCapital}
 use Rattle.catalogue.proofs.bounds.all_capitals.Statement.{statement}
 use Rattle.catalogue.proofs.bounds.all_capitals.Tie as tie
 
 abbrev Inv-loop : tie.InvT-loop
-Inv-loop bases i₀ i = (i ≤ length bases) × (every isBase bases ≡ every isBase (drop i bases))
+Inv-loop bases i₀ i = (i ≤ length bases) × (every isCapital bases ≡ every isCapital (drop i bases))
 
 abbrev μ-loop : tie.MeasureT-loop
 μ-loop bases i₀ i = length bases - i
@@ -21,16 +21,16 @@ abbrev μ-loop : tie.MeasureT-loop
 loop-holds : tie.Need-loop-holds Inv-loop μ-loop
 loop-holds c = (omega arith, refl)
 
-shared-slice-read-is-base : tie.Need-shared-slice-read-is-base Inv-loop μ-loop
-shared-slice-read-is-base c = search needs
+shared-slice-read-is-capital : tie.Need-shared-slice-read-is-capital Inv-loop μ-loop
+shared-slice-read-is-capital c = search needs
 
-is-base-requires : tie.Need-is-base-requires Inv-loop μ-loop
-is-base-requires c κs = search needs
+is-capital-requires : tie.Need-is-capital-requires Inv-loop μ-loop
+is-capital-requires c κs = search needs
 
 returns : tie.Need-returns Inv-loop μ-loop
 returns c =
     let a = c .before .before .before .before .before .before .args in
-    sym (c .before .before .before .before .loop .inv .1 ∙ every-fails isBase 0 (a .bases .now) _ (c .before .before .before .loop-test .taken) (sym (c .before .is-base .ensures) ∙ not-true _ (c .if1 .taken)))
+    sym (c .before .before .before .before .loop .inv .1 ∙ every-fails isCapital 0 (a .bases .now) _ (c .before .before .before .loop-test .taken) (sym (c .before .is-capital .ensures) ∙ not-true _ (c .if1 .taken)))
 
 add-i : tie.Need-add-i Inv-loop μ-loop
 add-i c = search needs
@@ -41,10 +41,10 @@ loop-less c = search needs
 loop-again : tie.Need-loop-again Inv-loop μ-loop
 loop-again c =
     let a = c .before .before .before .before .before .before .args in
-    (omega arith, c .before .before .before .before .loop .inv .1 ∙ every-passes isBase 0 (a .bases .now) _ (c .before .before .before .loop-test .taken) (sym (c .before .is-base .ensures) ∙ not-false _ (c .if1 .left)))
+    (omega arith, c .before .before .before .before .loop .inv .1 ∙ every-passes isCapital 0 (a .bases .now) _ (c .before .before .before .loop-test .taken) (sym (c .before .is-capital .ensures) ∙ not-false _ (c .if1 .left)))
 
 returns-2 : tie.Need-returns-2 Inv-loop μ-loop
-returns-2 c = let a = c .before .before .before .args in sym (c .before .loop .inv .1 ∙ every-end isBase (a .bases .now) _ (c .loop-test .left))
+returns-2 c = let a = c .before .before .before .args in sym (c .before .loop .inv .1 ∙ every-end isCapital (a .bases .now) _ (c .loop-test .left))
 
 pub all-capitals-spec : {M : Type 1} → statement M
 all-capitals-spec =
@@ -53,8 +53,8 @@ all-capitals-spec =
     Inv-loop
     μ-loop
     loop-holds
-    shared-slice-read-is-base
-    is-base-requires
+    shared-slice-read-is-capital
+    is-capital-requires
     returns
     add-i
     loop-less

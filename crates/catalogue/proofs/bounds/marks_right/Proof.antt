@@ -7,7 +7,7 @@ use Prim.Native.Nat.{_≤_, _-_}
 use lib.ListN.{length, drop}
 use lib.Dec.{leb}
 use borrow.Author.Tests.{lt-leb, le-leb}
-use Rattle.lists.specs.Keep.{every}
+use Rattle.lists.specs.Filter.{every}
 use Rattle.lists.proofs.Every.{every-fails, every-passes, every-end}
 use Rattle.catalogue.proofs.bounds.marks_right.Statement.{statement}
 use Rattle.catalogue.proofs.bounds.marks_right.Tie as tie

@@ -3,7 +3,7 @@
 use native.Mathlib.Omega.{arith}
 use mathlib.Core.Path.{sym, ap, _∙_}
 use borrow.Author.Tests.{not-true, not-false}
-use Rattle.lists.specs.Keep.{every}
+use Rattle.lists.specs.Filter.{every}
 use Rattle.lists.specs.Cut.{cut}
 use Rattle.lists.proofs.Cut.{length-cut}
 use Rattle.catalogue.proofs.Refusals.{names-refused, names-ranked, places-below}

@@ -4,8 +4,8 @@ use mathlib.Core.Path.{_∙_}
 use Prim.Native.Nat.{_-_, _<_}
 use lib.ListN.{length}
 use native.Mathlib.Omega.{arith}
-use Rattle.postings.specs.Index.{rankedSequences}
-use Rattle.postings.proofs.Sequencing.{ranked-many, ranked-length}
+use Rattle.index.specs.Index.{rankedSequences}
+use Rattle.index.proofs.Sequencing.{ranked-many, ranked-length}
 use Rattle.scan.proofs.Scanning.{RanksTo, ranks-none, ranks-length, ranks-going, ranks-stop, ranks-more, ranks-all}
 use Rattle.scan.proofs.every_start.scan.Statement.{statement}
 use Rattle.scan.proofs.every_start.scan.Tie as tie

@@ -5,8 +5,8 @@ use mathlib.Core.List.{[]}
 use Prim.Native.Nat.{_+_, _-_, _≤_}
 use lib.ListN.{length, getD}
 use native.Mathlib.Omega.{arith}
-use Rattle.postings.specs.Index.{rankedSequences}
-use Rattle.postings.proofs.Sequencing.{ranked-length}
+use Rattle.index.specs.Index.{rankedSequences}
+use Rattle.index.proofs.Sequencing.{ranked-length}
 use Rattle.scan.proofs.Scanning.{StartsTo, starts-none, starts-length, starts-going, starts-stop, starts-more, starts-all}
 use Rattle.scan.proofs.Visiting.{fit-start}
 use Rattle.scan.proofs.every_start.scan_sequence.Statement.{statement}

@@ -2,7 +2,7 @@
 -- Assumes nothing.
 use native.Mathlib.Omega.{arith}
 use borrow.Author.Needs.{needs}
-use Rattle.postings.specs.Index.{rankedSequences}
+use Rattle.index.specs.Index.{rankedSequences}
 use Rattle.scan.proofs.Visiting.{fit-other, both-first, both-stop, both-second, both-all}
 use Rattle.scan.proofs.every_start.visit_both.Statement.{statement}
 use Rattle.scan.proofs.every_start.visit_both.Tie as tie

@@ -4,7 +4,7 @@ use mathlib.Core.Path.{_∙_}
 use native.Mathlib.Omega.{arith}
 use borrow.Author.Needs.{needs}
 use borrow.Author.Tests.{not-true, not-false}
-use Rattle.postings.specs.Index.{rankedSequences}
+use Rattle.index.specs.Index.{rankedSequences}
 use Rattle.places.specs.Place.{place}
 use Rattle.scan.proofs.Going.{place-differs, place-past, place-entered}
 use Rattle.scan.proofs.Visiting.{fit-ranked, fit-end, fit-inside, fit-capitals, fit-matches}

@@ -5,7 +5,7 @@ use Rattle.candidates.proofs.Moving.{Passing, passing-none, passing-mor
 use borrow.Author.Needs.{needs}
 use mathlib.Core.Path.{_≡_, refl, sym, ap, _∙_}
 use Prim.Native.Nat.{_-_}
-use Rattle.postings.specs.Index.{rankedSequences}
+use Rattle.index.specs.Index.{rankedSequences}
 use Rattle.candidates.specs.Search.{lies}
 use Rattle.candidates.specs.Cursor.{postingAt}
 use Rattle.candidates.proofs.cursor.OrientationCursor.next_candidate.Statement.{

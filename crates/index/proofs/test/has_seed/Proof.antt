@@ -1,0 +1,26 @@
+-- `postings::index::has_seed` meets its contract: too short a sequence, too late a start, or the key decides.
+-- Assumes nothing.
+use Rattle.index.proofs.Testing.{short-sequence, late-start, by-key}
+use borrow.Author.Needs.{needs}
+use Rattle.index.proofs.test.has_seed.Statement.{statement}
+use Rattle.index.proofs.test.has_seed.Tie as tie
+
+returns : tie.Need-returns
+returns c = let a = c .before .before .args in short-sequence (a .q) (a .sequence .now) (a .start) (a .key) (c .if1 .taken)
+
+sub-if2 : tie.Need-sub-if2
+sub-if2 c = search needs
+
+returns-2 : tie.Need-returns-2
+returns-2 c = let a = c .before .before .before .args in late-start (a .q) (a .sequence .now) (a .start) (a .key) (c .before .if1 .left) (c .if2 .taken)
+
+key-at-requires : tie.Need-key-at-requires
+key-at-requires c κs = search needs
+
+returns-3 : tie.Need-returns-3
+returns-3 c =
+    let a = c .before .before .before .before .args in
+    by-key (a .q) (a .sequence .now) (a .start) (a .key) (c .before .before .if1 .left) (c .before .if2 .left) _ (c .key-at .ensures)
+
+pub has-seed-spec : {M : Type 1} → statement M
+has-seed-spec = tie.close (tie.spec returns sub-if2 returns-2 key-at-requires returns-3)

@@ -1,0 +1,33 @@
+-- `postings::index::is_seed` meets its contract: no such rank, or its sequence decides.
+-- Assumes nothing.
+use native.Mathlib.Omega.{arith}
+use mathlib.Core.Path.{_∙_}
+use Rattle.index.specs.Index.{rankedSequences}
+use Rattle.index.proofs.Sequencing.{ranked-many}
+use Rattle.index.proofs.Testing.{no-rank, some-rank}
+use borrow.Author.Needs.{needs}
+use Rattle.index.proofs.test.is_seed.Statement.{statement}
+use Rattle.index.proofs.test.is_seed.Tie as tie
+
+returns : tie.Need-returns
+returns c =
+    let a = c .before .before .before .before .args in
+    let ss = rankedSequences (a .bases .now) (a .ends .now) (a .ranked .now) in
+    let z = ranked-many (a .bases .now) (a .ends .now) (a .ranked .now) in
+    no-rank (a .q) ss (a .key) (a .rank) (a .position) (omega (arith, z, c .if1 .taken))
+
+ranked-sequence-requires : tie.Need-ranked-sequence-requires
+ranked-sequence-requires c κs = search needs
+
+has-seed-requires : tie.Need-has-seed-requires
+has-seed-requires c κs = search needs
+
+returns-2 : tie.Need-returns-2
+returns-2 c =
+    let a = c .before .before .before .before .before .before .args in
+    let ss = rankedSequences (a .bases .now) (a .ends .now) (a .ranked .now) in
+    let z = ranked-many (a .bases .now) (a .ends .now) (a .ranked .now) in
+    c .has-seed .ensures ∙ some-rank (a .q) ss (a .key) (a .rank) (a .position) (omega (arith, z, c .before .before .if1 .left)) _ (c .before .ranked-sequence .ensures)
+
+pub is-seed-spec : {M : Type 1} → statement M
+is-seed-spec = tie.close (tie.spec returns ranked-sequence-requires has-seed-requires returns-2)

@@ -1,0 +1,101 @@
+-- `postings::lookup::lower_bound` meets its contract. The invariant: the place looked for is between low and high, and so is the next probe.
+-- Assumes nothing.
+use native.Mathlib.Omega.{arith}
+use borrow.Author.Needs.{needs}
+use Prim.Native.Nat.{_-_}
+use Rattle.lookup.proofs.Searching.{Probing, between-from, between-met, go-higher, go-lower}
+use Rattle.lookup.proofs.lookup.lower_bound.Statement.{statement}
+use Rattle.lookup.proofs.lookup.lower_bound.Tie as tie
+
+abbrev Inv-loop : tie.InvT-loop
+Inv-loop keys bound from first gap low₀ high₀ mid₀ step₀ low high mid step = Probing keys bound low high mid
+
+abbrev μ-loop : tie.MeasureT-loop
+μ-loop keys bound from first gap low₀ high₀ mid₀ step₀ low high mid step = high - low
+
+loop-holds : tie.Need-loop-holds Inv-loop μ-loop
+loop-holds c =
+    let a = c .before .args in
+    record { between = between-from (a .keys .now) (a .bound) (a .from) (c .before .pre .0 .1 .0); within = c .before .pre .1 }
+
+longer-requires : tie.Need-longer-requires Inv-loop μ-loop
+longer-requires c κs = search needs
+
+posting-key-requires : tie.Need-posting-key-requires Inv-loop μ-loop
+posting-key-requires c κs =
+    let at = c .before .before .loop in
+    let w = at .inv .within (c .before .loop-test .taken) in
+    omega (arith, w .1, at .inv .between .inside)
+
+add-low : tie.Need-add-low Inv-loop μ-loop
+add-low c =
+    let at = c .before .before .before .before .loop in
+    let w = at .inv .within (c .before .before .before .loop-test .taken) in
+    omega (arith, w .1, at .inv .between .inside)
+
+sub-probe-after : tie.Need-sub-probe-after Inv-loop μ-loop
+sub-probe-after c = omega (arith, c .if1 .taken)
+
+div-probe-after : tie.Need-div-probe-after Inv-loop μ-loop
+div-probe-after c = omega (arith, c .before .before .before .before .before .before .pre .0 .1 .1)
+
+probe-after-requires : tie.Need-probe-after-requires Inv-loop μ-loop
+probe-after-requires c κs = search needs
+
+loop-less : tie.Need-loop-less Inv-loop μ-loop
+loop-less c =
+    let at = c .before .before .before .before .before .loop in
+    let w = at .inv .within (c .before .before .before .before .loop-test .taken) in
+    omega (arith, w .0, w .1)
+
+loop-again : tie.Need-loop-again Inv-loop μ-loop
+loop-again c =
+    let a = c .before .before .before .before .before .before .before .args in
+    let at = c .before .before .before .before .before .loop in
+    let w = at .inv .within (c .before .before .before .before .loop-test .taken) in
+    record { between = go-higher (a .keys .now) (a .bound) _ _ (at .inv .between) (c .before .before .before .before .before .before .before .pre .0 .0) (at .mid) (w .0) (w .1) _ (c .before .before .posting-key .ensures) (c .before .if1 .taken); within = c .probe-after .ensures }
+
+div-probe-before : tie.Need-div-probe-before Inv-loop μ-loop
+div-probe-before c = omega (arith, c .before .before .before .before .before .before .pre .0 .1 .1)
+
+probe-before-requires : tie.Need-probe-before-requires Inv-loop μ-loop
+probe-before-requires c κs = search needs
+
+loop-less-2 : tie.Need-loop-less-2 Inv-loop μ-loop
+loop-less-2 c =
+    let at = c .before .before .before .before .before .loop in
+    let w = at .inv .within (c .before .before .before .before .loop-test .taken) in
+    omega (arith, w .0, w .1)
+
+loop-again-2 : tie.Need-loop-again-2 Inv-loop μ-loop
+loop-again-2 c =
+    let a = c .before .before .before .before .before .before .before .args in
+    let at = c .before .before .before .before .before .loop in
+    let w = at .inv .within (c .before .before .before .before .loop-test .taken) in
+    record { between = go-lower (a .keys .now) (a .bound) _ _ (at .inv .between) (c .before .before .before .before .before .before .before .pre .0 .0) (at .mid) (w .0) (w .1) _ (c .before .before .posting-key .ensures) (c .before .if1 .left); within = c .probe-before .ensures }
+
+returns : tie.Need-returns Inv-loop μ-loop
+returns c =
+    let a = c .before .before .before .args in
+    between-met (a .keys .now) (a .bound) _ _ (c .before .loop .inv .between) (c .loop-test .left)
+
+pub lower-bound-spec : {M : Type 1} → statement M
+lower-bound-spec =
+    tie.close
+    (tie.spec
+    Inv-loop
+    μ-loop
+    loop-holds
+    longer-requires
+    posting-key-requires
+    add-low
+    sub-probe-after
+    div-probe-after
+    probe-after-requires
+    loop-less
+    loop-again
+    div-probe-before
+    probe-before-requires
+    loop-less-2
+    loop-again-2
+    returns)

@@ -1,0 +1,3 @@
+// The numbers of a posting by its place, and where the postings of a key stand.
+pub mod lookup;
+pub mod read;

@@ -1,0 +1,142 @@
+// The postings of a key in an index. A search starts where the spread of the keys lets it expect the key, and goes on from
+// there in steps that grow; a wrong expectation costs time and nothing else.
+ghost use mathlib.Core.Path.{_≡_};
+ghost use Prim.Native.Nat.{_<_, _≤_};
+ghost use lib.ListN.{length};
+ghost use Rattle.lists.specs.Slice.{old};
+ghost use Rattle.lookup.specs.Range.{Rising, BoundAt, BelowTo, RangeOf};
+use crate::read::posting_key;
+
+// The places from start up to end.
+pub struct Range {
+    pub start: usize,
+    pub end: usize,
+}
+
+// A place from low up to high: `by` and a step behind low, or the last one; the middle once steps are long.
+fn probe_after(low: usize, high: usize, by: u64, step: u64) -> usize
+    ensures { λ r. ⌜ (low < high → (low ≤ r) × (r < high)) ⌝ }
+{
+    if high <= low {
+        return low;
+    }
+    let room = (high - low) as u64;
+    if 256 <= step {
+        return low + (high - low) / 2;
+    }
+    if room <= by {
+        return high - 1;
+    }
+    if room - by <= step {
+        return high - 1;
+    }
+    low + (by + step) as usize
+}
+
+// The same in front of high.
+fn probe_before(low: usize, high: usize, by: u64, step: u64) -> usize
+    ensures { λ r. ⌜ (low < high → (low ≤ r) × (r < high)) ⌝ }
+{
+    if high <= low {
+        return low;
+    }
+    let room = (high - low) as u64;
+    if 256 <= step {
+        return low + (high - low) / 2;
+    }
+    if room <= by {
+        return low;
+    }
+    if room - by <= step {
+        return low;
+    }
+    high - 1 - (by + step) as usize
+}
+
+// The step behind this one: twice as long, up to a bound.
+fn longer(step: u64) -> u64 {
+    if 256 <= step {
+        return step;
+    }
+    step * 2 + 1
+}
+
+// The first place from `from` on whose key is not below a bound, or the end. The search begins at `first`; keys are thought
+// to be `gap` apart.
+fn lower_bound(keys: &[u64], bound: u64, from: usize, first: usize, gap: u64) -> usize
+    requires { ⌜ Rising (now keys) × (BelowTo (now keys) bound from × (1 ≤ gap)) ⌝ }
+    requires { ⌜ (from < length (now keys) → (from ≤ first) × (first < length (now keys))) ⌝ }
+    ensures { λ r. ⌜ BoundAt (old keys) bound r ⌝ }
+{
+    let mut low = from;
+    let mut high = keys.len();
+    let mut mid = first;
+    let mut step = 0;
+    while low < high {
+        let near = step;
+        step = longer(step);
+        let key = posting_key(keys, mid);
+        if key < bound {
+            low = mid + 1;
+            mid = probe_after(low, high, (bound - key) / gap, near);
+        } else {
+            high = mid;
+            mid = probe_before(low, high, (key - bound) / gap, near);
+        }
+    }
+    low
+}
+
+// How far apart keys are on the whole, at least 1.
+fn typical_gap(keys: &[u64]) -> u64
+    requires { ⌜ Rising (now keys) × (0 < length (now keys)) ⌝ }
+    ensures { λ r. ⌜ 1 ≤ r ⌝ }
+{
+    let first = posting_key(keys, 0);
+    let last = posting_key(keys, keys.len() - 1);
+    let gap = (last - first) / keys.len() as u64;
+    if gap == 0 {
+        return 1;
+    }
+    gap
+}
+
+// Where a key is expected.
+fn expected_place(keys: &[u64], key: u64, gap: u64) -> usize
+    requires { ⌜ (0 < length (now keys)) × (1 ≤ gap) ⌝ }
+    ensures { λ r. ⌜ r < length (old keys) ⌝ }
+{
+    let first = posting_key(keys, 0);
+    let last = keys.len() - 1;
+    if key < first {
+        return 0;
+    }
+    let place = (key - first) / gap;
+    if last as u64 <= place {
+        return last;
+    }
+    place as usize
+}
+
+// Where the postings of a key stand.
+pub fn posting_range(keys: &[u64], key: u64) -> Range
+    requires { ⌜ Rising (now keys) ⌝ }
+    ensures { λ r. ⌜ RangeOf (old keys) key (r .start) (r .end) ⌝ }
+{
+    if keys.len() == 0 {
+        return Range { start: 0, end: 0 };
+    }
+    let gap = typical_gap(keys);
+    let expected = expected_place(keys, key, gap);
+    let start = lower_bound(keys, key, 0, expected, gap);
+    if key == u64::MAX {
+        return Range {
+            start,
+            end: keys.len(),
+        };
+    }
+    Range {
+        start,
+        end: lower_bound(keys, key + 1, start, start, gap),
+    }
+}

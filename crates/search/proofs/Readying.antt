@@ -1,0 +1,67 @@
+-- What the calls of a search by index ask for.
+-- Assumes nothing.
+use mathlib.Core.Path.{_≡_, refl, ap}
+use mathlib.Core.List.{List}
+use Prim.Native.Nat.{ℕ, zero, suc, _≤_}
+use native.Mathlib.Omega.{arith}
+use lib.ListN.{length}
+use lib.Dec.{eqb}
+use Rattle.lists.proofs.Limit.{length-stopped}
+use Rattle.bases.specs.Read.{oriented}
+use Rattle.bases.proofs.Turning.{length-oriented}
+use Rattle.names.specs.Ordered.{numbers}
+use Rattle.seeds.specs.Key.{SeedIn}
+use Rattle.seeds.specs.Seeds.{starts}
+use Rattle.lookup.specs.Range.{Rising}
+use Rattle.index.specs.Index.{indexOf, rankedSequences}
+use Rattle.index.proofs.Hits.{index-rising}
+use Rattle.index.proofs.Sequencing.{ranked-many}
+use Rattle.candidates.specs.Search.{offsetCount, Rarest}
+use Rattle.candidates.specs.Cursor.{CursorIn}
+use Rattle.candidates.specs.declared.rarest.SeedChoice.{SeedChoice}
+use Rattle.candidates.specs.declared.sides.Sides.{Sides}
+use Rattle.search.specs.Steps.{IndexSearchable, Spans}
+use Rattle.search.proofs.Seeking.{cursor-in, in-index, index-few}
+use Rattle.search.proofs.Merging.{Chosen, Both}
+
+length-numbers : (k n : ℕ) → length (numbers k n) ≡ n
+length-numbers k zero = refl
+length-numbers k (suc n) = ap suc (length-numbers (suc k) n)
+
+module _ (q : ℕ) (bases ends ranked ks rs os read : List ℕ) (ready : IndexSearchable q bases ends ranked ks rs os read) (long : q ≤ length read) where
+  abbrev ss : List (List ℕ)
+  ss = rankedSequences bases ends ranked
+
+  pub ready-rising : Rising ks
+  ready-rising = rw (ready .indexed .keys) (index-rising q (rankedSequences bases ends ranked))
+
+  pub ready-seed : SeedIn (length read) q 0
+  ready-seed = record { some = ready .seed .some; most = ready .seed .most; inside = omega arith }
+
+  pub ready-few : length (indexOf q (rankedSequences bases ends ranked)) ≤ 68719476736
+  ready-few = index-few q bases ends ranked (ready .seed .some) (ready .searchable .lent)
+
+  pub ready-cursor : (next end : ℕ) → next ≤ end → end ≤ length ks → CursorIn rs os (length ranked) next end
+  ready-cursor next end h k = rw (← ranked-many bases ends ranked) (cursor-in q (rankedSequences bases ends ranked) ks rs os (ready .indexed) next end h k)
+
+  module _ (plus minus : SeedChoice) (p : Rarest ks q (oriented 0 read) (plus .offset) (plus .start) (plus .end) (plus .lookups)) (m : Rarest ks q (oriented 1 read) (minus .offset) (minus .start) (minus .end) (minus .lookups)) where
+    pub ready-chosen : Chosen q (rankedSequences bases ends ranked) read ks rs os plus minus
+    ready-chosen = record { some = ready .seed .some; long = long; indexed = ready .indexed; plus-chosen = p; minus-chosen = m }
+
+    lookups-few : (strand : ℕ) (choice : SeedChoice) → Rarest ks q (oriented strand read) (choice .offset) (choice .start) (choice .end) (choice .lookups) → choice .lookups ≤ 65536
+    lookups-few strand choice r =
+        omega (arith, r .lookups-are, length-stopped (λ o. eqb (offsetCount ks q (oriented strand read) o) 0) (numbers 0 (starts q (oriented strand read))) 0, length-numbers 0 (starts q (oriented strand read)), length-oriented strand read, ready .searchable .short)
+
+    module _ (bound : ℕ) (buffer : List ℕ) (sides : Sides) (c s : ℕ) (b : List ℕ) (at : Both q (rankedSequences bases ends ranked) ranked read bound plus minus buffer sides c s b) where
+      pub ready-spans : Spans plus (sides .plus) × Spans minus (sides .minus)
+      ready-spans =
+          let i = in-index q (rankedSequences bases ends ranked) ks rs os (ready .indexed) in (
+            record { from = at .plus-side .from; upto = at .plus-side .upto; most = omega (arith, p .range-is .inside, i, ready-few); lookups = lookups-few 0 plus p },
+            record { from = at .minus-side .from; upto = at .minus-side .upto; most = omega (arith, m .range-is .inside, i, ready-few); lookups = lookups-few 1 minus m },
+          )
+
+      pub ready-cursors : CursorIn rs os (length ranked) (sides .plus .cursor .next) (sides .plus .cursor .end) × CursorIn rs os (length ranked) (sides .minus .cursor .next) (sides .minus .cursor .end)
+      ready-cursors = (
+        ready-cursor (sides .plus .cursor .next) (sides .plus .cursor .end) (omega (arith, at .plus-side .upto, at .plus-side .end-is)) (omega (arith, p .range-is .inside, at .plus-side .end-is)),
+        ready-cursor (sides .minus .cursor .next) (sides .minus .cursor .end) (omega (arith, at .minus-side .upto, at .minus-side .end-is)) (omega (arith, m .range-is .inside, at .minus-side .end-is)),
+      )
