@@ -2,7 +2,7 @@
 ghost use mathlib.Core.Path.{_≡_};
 ghost use mathlib.Core.List.{map};
 ghost use Rattle.lists.specs.Filter.{every};
-ghost use Rattle.lists.specs.Slice.{old};
+ghost use Rattle.promises.specs.Slice.{old};
 ghost use Rattle.bases.specs.Base.{isCapital, upperOf};
 ghost use Rattle.bases.specs.Read.{lent, readOf};
 ghost use Rattle.bases.specs.Eligibility.{verdictOf, qualityTest, qualitiesTest, givenTest, eligibility};

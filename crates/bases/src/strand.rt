@@ -6,7 +6,7 @@ ghost use Prim.Native.Nat.{_<_};
 ghost use lib.ListN.{length, getD};
 ghost use lib.Dec.{eqb};
 ghost use Rattle.lists.specs.Filter.{every};
-ghost use Rattle.lists.specs.Slice.{old};
+ghost use Rattle.promises.specs.Slice.{old};
 ghost use Rattle.bases.specs.Base.{codeOf, upperOf, isCapital, Table};
 ghost use Rattle.bases.specs.Read.{oriented};
 use crate::base::MARK;

@@ -1,7 +1,7 @@
 // The candidates of a seed's postings, one after the other.
 ghost use mathlib.Core.Path.{_≡_};
 ghost use lib.ListN.{length};
-ghost use Rattle.lists.specs.Slice.{old};
+ghost use Rattle.promises.specs.Slice.{old};
 ghost use Rattle.index.specs.Index.{Lent, lentSequences};
 ghost use Rattle.candidates.specs.Search.{fits};
 ghost use Rattle.candidates.specs.Cursor.{CursorIn, Taken};

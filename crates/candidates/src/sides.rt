@@ -2,7 +2,7 @@
 ghost use mathlib.Core.Path.{_≡_};
 ghost use mathlib.Core.Bool.{_||_, cond};
 ghost use lib.ListN.{length};
-ghost use Rattle.lists.specs.Slice.{old};
+ghost use Rattle.promises.specs.Slice.{old};
 ghost use Rattle.index.specs.Index.{Lent, lentSequences};
 ghost use Rattle.candidates.specs.Cursor.{CursorIn, plusFirst, BothTaken, OneMoved};
 use crate::cursor::Candidate;

@@ -15,7 +15,7 @@ use Rattle.lists.proofs.Cases.{by-test}
 use Rattle.lists.proofs.Every.{∈-every}
 use Rattle.lists.proofs.Sort.{sort-∈}
 use Rattle.lists.proofs.Cut.{length-cut}
-use Rattle.catalogue.specs.Refusal.{unless}
+use Rattle.promises.specs.Refusal.{unless}
 use Rattle.names.specs.Name.{distinctNames}
 use Rattle.names.specs.Ordered.{numbers, placeBefore}
 use Rattle.catalogue.specs.Catalogue.{Catalogue, Valid, names, sequences, inBounds, properSequence, catalogueRefusal, mapped}

@@ -9,9 +9,9 @@ use lib.Dec.{leb, eqb, ltb}
 use Rattle.lists.specs.Filter.{filter, every}
 use Rattle.lists.specs.Sort.{sort}
 use Rattle.lists.specs.Cut.{cut, endsWithin}
-use Rattle.lists.specs.Slice.{Slice, old}
+use Rattle.promises.specs.Slice.{Slice, old}
 use Rattle.bases.specs.Base.{isCapital}
-use Rattle.catalogue.specs.Refusal.{unless, _orElse_}
+use Rattle.promises.specs.Refusal.{unless, _orElse_}
 use Rattle.names.specs.Name.{nameBefore, distinctNames}
 
 -- a catalogue as it is lent: identifier bytes with ends, base bytes with ends, a topology mark for each target

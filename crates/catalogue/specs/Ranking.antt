@@ -7,7 +7,7 @@ use lib.ListN.{length, getD, take}
 use lib.Dec.{eqb}
 use Rattle.lists.specs.Filter.{filter}
 use Rattle.lists.specs.Sort.{sort}
-use Rattle.catalogue.specs.Refusal.{unless}
+use Rattle.promises.specs.Refusal.{unless}
 use Rattle.names.specs.Name.{distinctNames}
 use Rattle.names.specs.Ordered.{numbers, placeBefore}
 use Rattle.catalogue.specs.Catalogue.{Catalogue, Target, catalogueRefusal, mapped}

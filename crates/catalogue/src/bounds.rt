@@ -7,7 +7,7 @@ ghost use lib.ListN.{length};
 ghost use lib.Dec.{leb};
 ghost use Rattle.lists.specs.Filter.{every};
 ghost use Rattle.lists.specs.Cut.{cut, endsWithin};
-ghost use Rattle.lists.specs.Slice.{old};
+ghost use Rattle.promises.specs.Slice.{old};
 ghost use Rattle.bases.specs.Base.{isCapital};
 ghost use Rattle.catalogue.specs.Catalogue.{lentCatalogue, countsRight, endsRight, valuesRight, inBounds, properSequence, sequences};
 

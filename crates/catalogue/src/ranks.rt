@@ -6,7 +6,7 @@ ghost use lib.ListN.{length, set};
 ghost use lib.Dec.{ltb};
 ghost use Rattle.lists.specs.Filter.{every};
 ghost use Rattle.lists.specs.Cut.{cut, endsWithin};
-ghost use Rattle.lists.specs.Slice.{old, new};
+ghost use Rattle.promises.specs.Slice.{old, new};
 ghost use Rattle.catalogue.specs.Catalogue.{lentCatalogue};
 ghost use Rattle.catalogue.specs.Ranking.{Kept, NamesRanked, RankedAs};
 use crate::bounds::all_proper;

@@ -4,7 +4,7 @@
 ghost use mathlib.Core.Path.{_≡_};
 ghost use Prim.Native.Nat.{_≤_};
 ghost use lib.ListN.{length};
-ghost use Rattle.lists.specs.Slice.{old, new};
+ghost use Rattle.promises.specs.Slice.{old, new};
 ghost use Rattle.catalogue.specs.Catalogue.{lentCatalogue};
 ghost use Rattle.seeds.specs.Seeds.{placed};
 ghost use Rattle.index.specs.Index.{indexRefusal};
@@ -12,7 +12,6 @@ ghost use Rattle.postings.specs.Answers.{planAnswer, builtRefusal, builtCount};
 ghost use Rattle.search.specs.Answer.{answerOf};
 ghost use Rattle.many_reads.specs.Reads.{rowOf, MapsReads};
 ghost use Rattle.exports.specs.Exports.{planNumbers, buildNumbers, ExportsPlan, ExportsBuild, ExportsMap};
-use search::answer::MapAnswer;
 use indexed_mapper::map::map;
 use many_reads::map_reads;
 use many_reads::write_row;
@@ -21,6 +20,7 @@ use postings::plan::IndexPlan;
 use postings::plan::build;
 use postings::plan::check_index;
 use postings::plan::plan;
+use search::answer::MapAnswer;
 
 // Writes the answer of a plan, and returns its refusal.
 fn put_plan(answer: &mut [u64], planned: IndexPlan) -> u64

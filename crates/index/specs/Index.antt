@@ -9,8 +9,8 @@ use Rattle.lists.specs.Filter.{filter, every}
 use Rattle.lists.specs.Sort.{sort}
 use Rattle.lists.specs.Same.{same}
 use Rattle.lists.specs.Cut.{cut, window, endsWithin}
-use Rattle.lists.specs.Slice.{Slice, old}
-use Rattle.catalogue.specs.Refusal.{unless, _orElse_}
+use Rattle.promises.specs.Slice.{Slice, old}
+use Rattle.promises.specs.Refusal.{unless, _orElse_}
 use Rattle.catalogue.specs.Catalogue.{Catalogue, Target, Valid, catalogueRefusal, mapped, maxTargets, maxBases}
 use Rattle.columns.specs.Posting.{Posting, earlier}
 use Rattle.columns.specs.Parts.{row}

@@ -2,7 +2,7 @@
 ghost use mathlib.Core.Path.{_≡_};
 ghost use Prim.Native.Nat.{_≤_};
 ghost use lib.ListN.{length};
-ghost use Rattle.lists.specs.Slice.{old, new};
+ghost use Rattle.promises.specs.Slice.{old, new};
 ghost use Rattle.seeds.specs.Seeds.{Stored, Room};
 ghost use Rattle.index.specs.Index.{rankedSequences, allSeeds, indexOf, Lent, SeedLength, lentSequences};
 use crate::ranked::ranked_sequence;

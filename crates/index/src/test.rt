@@ -5,17 +5,17 @@ ghost use Prim.Native.Nat.{_<_};
 ghost use lib.ListN.{length};
 ghost use lib.Dec.{ltb, eqb};
 ghost use Rattle.lists.specs.Cut.{window};
-ghost use Rattle.lists.specs.Slice.{old};
+ghost use Rattle.promises.specs.Slice.{old};
 ghost use Rattle.columns.specs.Posting.{Columns, posting};
 ghost use Rattle.seeds.specs.Key.{keyOf};
 ghost use Rattle.seeds.specs.Seeds.{starts};
 ghost use Rattle.index.specs.Index.{indexOf, columnsOf, isSeed, RowsRight, Tells, Climbs, Lent, SeedLength, lentSequences};
 use crate::ranked::count_postings;
 use crate::ranked::ranked_sequence;
+use columns::precedes;
 use lookup::read::posting_key;
 use lookup::read::posting_position;
 use lookup::read::posting_rank;
-use columns::precedes;
 use seeds::keys::key_at;
 
 // Whether a seed of a sequence has a start and a key.

@@ -18,7 +18,7 @@ use Rattle.lists.proofs.Member.{map-∈}
 use Rattle.lists.proofs.Same.{same-true}
 use Rattle.bases.specs.Base.{A, C, G, T, isCapital}
 use Rattle.bases.proofs.Bytes.{letter-capital}
-use Rattle.catalogue.specs.Refusal.{unless, _orElse_}
+use Rattle.promises.specs.Refusal.{unless, _orElse_}
 use Rattle.names.specs.Name.{distinctNames}
 use Rattle.catalogue.specs.Catalogue.{Catalogue, Target, Valid, names, sequences, mapped, inBounds, properSequence, catalogueRefusal}
 use Rattle.catalogue.specs.Ranking.{rankingRefusal, RanksOf}

@@ -3,9 +3,9 @@ ghost use mathlib.Core.Path.{_≡_};
 ghost use mathlib.Core.Bool.{true};
 ghost use lib.ListN.{length};
 ghost use Rattle.lists.specs.Filter.{every};
-ghost use Rattle.lists.specs.Slice.{old, new};
+ghost use Rattle.promises.specs.Slice.{old, new};
 ghost use Rattle.bases.specs.Base.{isCapital};
-ghost use Rattle.catalogue.specs.Refusal.{unless, _orElse_};
+ghost use Rattle.promises.specs.Refusal.{unless, _orElse_};
 ghost use Rattle.catalogue.specs.Catalogue.{lentCatalogue};
 ghost use Rattle.index.specs.Index.{rankedSequences, indexOf, columnsOf, Lent, SeedLength, lentSequences};
 ghost use Rattle.places.specs.Place.{groups};
@@ -13,12 +13,12 @@ ghost use Rattle.scan.specs.Entries.{entryCount};
 ghost use Rattle.search.specs.Work.{work};
 ghost use Rattle.search.specs.Answer.{readRefusal, roomRefusal, Answered, MapsTo};
 ghost use Rattle.search.specs.Steps.{Mappable};
-use search::answer::MapAnswer;
-use search::search::search;
 use catalogue::bounds::proper_sequence;
 use catalogue::ranks::Ranking;
 use index::test::is_index;
 use postings::plan::rank_checked;
+use search::answer::MapAnswer;
+use search::search::search;
 
 // Tests a read and a limit: refusals 7, 8 and 9, or 0.
 pub fn check_read(read: &[u8], limit: u64) -> u64

@@ -6,4 +6,3 @@ pub mod Triple
 pub mod Limit
 pub mod Cut
 pub mod Same
-pub mod Slice

@@ -3,7 +3,7 @@
 ghost use mathlib.Core.Path.{_≡_};
 ghost use Prim.Native.Nat.{_<_, _≤_};
 ghost use lib.ListN.{length};
-ghost use Rattle.lists.specs.Slice.{old};
+ghost use Rattle.promises.specs.Slice.{old};
 ghost use Rattle.lookup.specs.Range.{Rising, BoundAt, BelowTo, RangeOf};
 use crate::read::posting_key;
 

@@ -2,7 +2,7 @@
 ghost use mathlib.Core.Path.{_≡_};
 ghost use Prim.Native.Nat.{_<_};
 ghost use lib.ListN.{length, getD};
-ghost use Rattle.lists.specs.Slice.{old};
+ghost use Rattle.promises.specs.Slice.{old};
 
 pub fn posting_key(keys: &[u64], i: usize) -> u64
     requires { ⌜ i < length (now keys) ⌝ }

@@ -14,7 +14,7 @@ use Rattle.lists.specs.Cut.{window, cut}
 use Rattle.lists.proofs.Cases.{by-test}
 use Rattle.lists.proofs.Cut.{length-window, length-cut}
 use Rattle.lists.proofs.Places.{drop-take}
-use Rattle.catalogue.specs.Refusal.{_orElse_}
+use Rattle.promises.specs.Refusal.{_orElse_}
 use Rattle.seeds.specs.Seeds.{placed}
 use Rattle.seeds.proofs.Storing.{length-placed, placed-placed}
 use Rattle.places.specs.Place.{Place, groups}

@@ -6,7 +6,7 @@ use Prim.Native.Nat.{ℕ, zero, suc, _+_, _*_, _/_, _<_}
 use lib.ListN.{length, getD, drop}
 use lib.Dec.{eqb}
 use Rattle.lists.specs.Cut.{window, cut, endsWithin}
-use Rattle.catalogue.specs.Refusal.{unless, _orElse_}
+use Rattle.promises.specs.Refusal.{unless, _orElse_}
 use Rattle.catalogue.specs.Catalogue.{Catalogue}
 use Rattle.seeds.specs.Seeds.{placed}
 use Rattle.index.specs.Index.{indexOf, columnsOf, indexRefusal}

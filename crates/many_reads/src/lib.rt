@@ -5,7 +5,7 @@ ghost use Prim.Native.Nat.{_+_, _*_, _/_, _≤_};
 ghost use lib.ListN.{length};
 ghost use Rattle.lists.specs.Filter.{every};
 ghost use Rattle.lists.specs.Cut.{endsWithin};
-ghost use Rattle.lists.specs.Slice.{old, new};
+ghost use Rattle.promises.specs.Slice.{old, new};
 ghost use Rattle.bases.specs.Base.{isCapital};
 ghost use Rattle.catalogue.specs.Catalogue.{lentCatalogue};
 ghost use Rattle.seeds.specs.Seeds.{placed};
@@ -14,15 +14,15 @@ ghost use Rattle.search.specs.Answer.{answerOf};
 ghost use Rattle.search.specs.Steps.{Mappable};
 ghost use Rattle.many_reads.specs.Reads.{rowOf, listRefusal, ShareMapped, RankedMapped, RankedReads, MapsReads};
 use catalogue::bounds::ends_within;
-use names::sequences::sequence_at;
 use catalogue::ranks::Ranking;
+use index::test::is_index;
+use indexed_mapper::map::map_read;
+use names::sequences::sequence_at;
+use postings::plan::rank_checked;
+use scan::entries::write_four;
 use search::answer::MapAnswer;
 use search::answer::Mapping;
 use search::answer::state_number;
-use indexed_mapper::map::map_read;
-use index::test::is_index;
-use postings::plan::rank_checked;
-use scan::entries::write_four;
 
 // Writes the row of a refusal.
 fn write_refused(rows: &mut [u64], at: usize, n: u64)

@@ -1,6 +1,6 @@
 // Identifiers compared.
 ghost use mathlib.Core.Path.{_≡_};
-ghost use Rattle.lists.specs.Slice.{old};
+ghost use Rattle.promises.specs.Slice.{old};
 ghost use Rattle.names.specs.Comparison.{comparison};
 
 // How an identifier stands to another one.

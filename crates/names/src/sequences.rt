@@ -5,7 +5,7 @@ ghost use mathlib.Core.List.{[], _∷_};
 ghost use Prim.Native.Nat.{_<_};
 ghost use lib.ListN.{length, getD};
 ghost use Rattle.lists.specs.Cut.{cut, endsWithin};
-ghost use Rattle.lists.specs.Slice.{old};
+ghost use Rattle.promises.specs.Slice.{old};
 
 // Where the sequence that ends at the i-th end starts: at the end before it.
 pub fn start_at(ends: &[usize], i: usize) -> usize

@@ -5,7 +5,7 @@ ghost use Prim.Native.Nat.{_<_, _≤_};
 ghost use lib.ListN.{length};
 ghost use Rattle.lists.specs.Same.{same};
 ghost use Rattle.lists.specs.Cut.{window};
-ghost use Rattle.lists.specs.Slice.{old};
+ghost use Rattle.promises.specs.Slice.{old};
 ghost use Rattle.bases.specs.Read.{oriented};
 ghost use Rattle.places.specs.Place.{folded, Laid, standsTo};
 use bases::strand::oriented_agrees;

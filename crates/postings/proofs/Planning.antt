@@ -13,7 +13,7 @@ use Rattle.lists.specs.Member.{_∈_}
 use Rattle.lists.proofs.Cases.{by-test, and-true}
 use Rattle.lists.proofs.Every.{∈-every}
 use Rattle.lists.proofs.Member.{map-∈}
-use Rattle.catalogue.specs.Refusal.{unless, _orElse_}
+use Rattle.promises.specs.Refusal.{unless, _orElse_}
 use Rattle.catalogue.specs.Catalogue.{Catalogue, Target, Valid, sequences, mapped, maxTargets}
 use Rattle.catalogue.specs.Ranking.{rankingRefusal, RanksOf, RankedAs}
 use Rattle.catalogue.specs.declared.ranks.Ranking.{Ranking}

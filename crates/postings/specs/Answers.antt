@@ -4,7 +4,7 @@ use mathlib.Core.List.{List, _++_}
 use Prim.Native.Nat.{ℕ, zero, suc, min}
 use lib.ListN.{length, drop}
 use lib.Dec.{leb}
-use Rattle.catalogue.specs.Refusal.{unless}
+use Rattle.promises.specs.Refusal.{unless}
 use Rattle.catalogue.specs.Catalogue.{Catalogue, mapped}
 use Rattle.catalogue.specs.Ranking.{rankingRefusal, RanksIn}
 use Rattle.catalogue.specs.declared.ranks.Ranking.{Ranking}

@@ -2,15 +2,15 @@
 ghost use mathlib.Core.Path.{_≡_};
 ghost use Prim.Native.Nat.{_≤_};
 ghost use lib.ListN.{length};
-ghost use Rattle.lists.specs.Slice.{old, new};
+ghost use Rattle.promises.specs.Slice.{old, new};
 ghost use Rattle.catalogue.specs.Catalogue.{lentCatalogue};
 ghost use Rattle.index.specs.Index.{Lent, SeedLength, indexOf, indexRefusal, lentSequences};
 ghost use Rattle.postings.specs.Answers.{planAnswer, planned, PlanRanked, BuiltAs, BuiltFrom};
-use index::build::build_index;
-use index::test::is_index;
-use index::ranked::count_postings;
 use catalogue::ranks::Ranking;
 use catalogue::ranks::rank_targets;
+use index::build::build_index;
+use index::ranked::count_postings;
+use index::test::is_index;
 
 // How many targets are mapped, and how many postings their index has.
 pub struct Counts {

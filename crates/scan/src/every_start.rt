@@ -3,7 +3,7 @@ ghost use mathlib.Core.Path.{_≡_};
 ghost use mathlib.Core.List.{_∷_, []};
 ghost use Prim.Native.Nat.{_<_};
 ghost use lib.ListN.{length, getD};
-ghost use Rattle.lists.specs.Slice.{old, new};
+ghost use Rattle.promises.specs.Slice.{old, new};
 ghost use Rattle.seeds.specs.Seeds.{starts};
 ghost use Rattle.index.specs.Index.{rankedSequences, lentSequences};
 ghost use Rattle.places.specs.Place.{place, Fits, placesIn, places};

@@ -2,13 +2,13 @@
 ghost use mathlib.Core.Path.{_≡_};
 ghost use mathlib.Core.List.{_∷_, []};
 ghost use lib.ListN.{length};
-ghost use Rattle.lists.specs.Slice.{old, new};
+ghost use Rattle.promises.specs.Slice.{old, new};
 ghost use Rattle.index.specs.Index.{rankedSequences, lentSequences};
 ghost use Rattle.places.specs.Place.{place, Fits};
 ghost use Rattle.scan.specs.Searched.{Searchable, Going, Searched};
 use crate::entries::write_entry;
-use places::stands_at;
 use index::ranked::ranked_sequence;
+use places::stands_at;
 
 // The places compared so far, and the matches among them.
 pub struct Tally {

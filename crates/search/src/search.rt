@@ -2,7 +2,7 @@
 ghost use mathlib.Core.Path.{_≡_};
 ghost use Prim.Native.Nat.{_*_, _≤_, min};
 ghost use lib.ListN.{length};
-ghost use Rattle.lists.specs.Slice.{old, new};
+ghost use Rattle.promises.specs.Slice.{old, new};
 ghost use Rattle.index.specs.Index.{lentSequences};
 ghost use Rattle.scan.specs.Searched.{Searchable};
 ghost use Rattle.search.specs.Work.{work, scanWork};

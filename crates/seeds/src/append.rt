@@ -3,7 +3,7 @@ ghost use mathlib.Core.Path.{_≡_};
 ghost use Prim.Native.Nat.{_+_, _-_, _^_, _≤_};
 ghost use lib.ListN.{length, set};
 ghost use Rattle.lists.specs.Cut.{window};
-ghost use Rattle.lists.specs.Slice.{old, new};
+ghost use Rattle.promises.specs.Slice.{old, new};
 ghost use Rattle.seeds.specs.Key.{keyOf, SeedIn};
 ghost use Rattle.seeds.specs.Seeds.{starts, seeds, Stored, Room};
 use crate::keys::key_at;

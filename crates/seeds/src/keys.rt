@@ -3,7 +3,7 @@ ghost use mathlib.Core.Path.{_≡_};
 ghost use Prim.Native.Nat.{_+_, _-_, _^_, _<_};
 ghost use lib.ListN.{length};
 ghost use Rattle.lists.specs.Cut.{window};
-ghost use Rattle.lists.specs.Slice.{old};
+ghost use Rattle.promises.specs.Slice.{old};
 ghost use Rattle.bases.specs.Read.{oriented};
 ghost use Rattle.seeds.specs.Key.{keyOf, SeedIn};
 use bases::base::table;

@@ -1,0 +1,24 @@
+-- Refusals by number, where 0 stands for none, and the outcome of a call.
+use mathlib.Core.Bool.{Bool, true, false}
+use Prim.Native.Nat.{ℕ, zero, suc}
+
+-- the number, unless the condition holds
+abbrev pub unless : Bool → ℕ → ℕ
+unless true n = 0
+unless false n = n
+
+infixr 25 _orElse_
+-- the first refusal stands
+abbrev pub _orElse_ : ℕ → ℕ → ℕ
+zero orElse n = n
+suc m orElse n = suc m
+
+-- a call is refused by a number, or accepted with an answer
+pub data Outcome (A : Type 0) : Type 0 where
+  refused : ℕ → Outcome A
+  accepted : A → Outcome A
+
+-- the outcome of a call with this refusal, which is 0 where it is accepted
+abbrev pub outcome : {A : Type 0} → ℕ → A → Outcome A
+outcome zero a = accepted a
+outcome (suc n) a = refused (suc n)
