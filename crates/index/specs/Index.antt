@@ -11,6 +11,7 @@ use Rattle.lists.specs.Same.{same}
 use Rattle.lists.specs.Cut.{cut, window, endsWithin}
 use Rattle.promises.specs.Slice.{Slice, old}
 use Rattle.promises.specs.Refusal.{unless, _orElse_}
+use Rattle.bases.specs.Base.{isCapital}
 use Rattle.catalogue.specs.Catalogue.{Catalogue, Target, Valid, catalogueRefusal, mapped, maxTargets, maxBases}
 use Rattle.columns.specs.Posting.{Posting, earlier}
 use Rattle.columns.specs.Parts.{row}
@@ -70,12 +71,13 @@ rankedSequences bases ends ranked = map (λ p. getD (cut ends bases) p []) ranke
 abbrev pub lentSequences : Slice → Slice → Slice → List (List ℕ)
 lentSequences bases ends ranked = rankedSequences (old bases) (old ends) (old ranked)
 
--- bytes with right ends within the bound, and places of them by rank
+-- what every inner call is lent: sequences with right ends within the bound, and places of them by rank, all of capitals
 pub record Lent (bases ends ranked : List ℕ) : Type 0 where
   pub right : endsWithin 0 (length bases) ends ≡ true
   pub total : endsWithin 0 maxBases ends ≡ true
   pub few : length ranked ≤ maxTargets
   pub places : every (λ p. ltb p (length ends)) ranked ≡ true
+  pub capitals : every (λ (s : List ℕ). every isCapital s) (rankedSequences bases ends ranked) ≡ true
 
 -- a seed length within its bound
 pub record SeedLength (q : ℕ) : Type 0 where

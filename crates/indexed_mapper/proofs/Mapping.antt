@@ -107,16 +107,15 @@ module _ (q : ℕ) (ss : List (List ℕ)) (ks rs os : List ℕ) where
       }
 
 -- an index that was tested
-pub mappable : (q : ℕ) (bases ends ranked ks rs os : List ℕ) → Lent bases ends ranked → SeedLength q → every (λ (s : List ℕ). every isCapital s) (rankedSequences bases ends ranked) ≡ true
-    → columnsOf (indexOf q (rankedSequences bases ends ranked)) ks rs os ≡ true → Mappable q bases ends ranked ks rs os
-mappable q bases ends ranked ks rs os l s c t = record { lent = l; capitals = c; seed = s; indexed = held-indexed q (rankedSequences bases ends ranked) ks rs os t }
+pub mappable : (q : ℕ) (bases ends ranked ks rs os : List ℕ) → Lent bases ends ranked → SeedLength q → columnsOf (indexOf q (rankedSequences bases ends ranked)) ks rs os ≡ true → Mappable q bases ends ranked ks rs os
+mappable q bases ends ranked ks rs os l s t = record { lent = l; seed = s; indexed = held-indexed q (rankedSequences bases ends ranked) ks rs os t }
 
 -- with a read that was tested it is what a search by index is lent
 pub searchable : (q : ℕ) (bases ends ranked ks rs os read : List ℕ) (limit : ℕ) → Mappable q bases ends ranked ks rs os → readRefusal read limit ≡ 0 → IndexSearchable q bases ends ranked ks rs os read
 searchable q bases ends ranked ks rs os read limit m z =
     let r = read-right read limit z in
     record {
-      searchable = record { lent = m .lent; capitals = m .capitals; letters = letters-folded read (r .1); short = r .0 };
+      searchable = record { lent = m .lent; letters = letters-folded read (r .1); short = r .0 };
       seed = m .seed;
       indexed = m .indexed;
     }
@@ -162,20 +161,6 @@ plan-below q c =
     (λ e. rw e (omega arith))
 
 module _ (q : ℕ) (c : Catalogue) (r : Ranking) (buffer : List ℕ) (p : PlanRanked q c r buffer) where
-  -- the sequences of a catalogue that is not refused are capitals
-  pub ranked-capitals : (k : ℕ) → r ≡ Ranked k → every (λ (s : List ℕ). every isCapital s) (rankedSequences (c .bases) (c .baseEnds) (take k buffer)) ≡ true
-  ranked-capitals k e = rw (ranked-mapped q c r buffer p k e) (∈-every (λ (s : List ℕ). every isCapital s) (mappedSequences c) proper)
-    where
-      right : Valid c
-      right = plan-right q c (no-refusal q c r buffer p k e) .1
-
-      proper : (s : List ℕ) → s ∈ mappedSequences c → every isCapital s ≡ true
-      proper s m =
-          let w = map-∈ (λ (t : Target). t .bases) s (mapped c) m in
-          let a = at-its-place c (right .bounds) (w .0) (mapped-∈ c (w .0) (w .1) .0) in
-          let l = every-at properSequence [] (sequences c) (right .letters) (w .0 .place) (omega (arith, a .0, length-cut 0 (c .baseEnds) (c .bases))) in
-          and-true (ltb 0 (length s)) (every isCapital s) (ap properSequence (w .2 ∙ a .1) ∙ l) .1
-
   module _ (ks rs os read : List ℕ) (limit : ℕ) (b : List ℕ) where
     pub map-refused : (n : ℕ) → r ≡ Refused n → MapsTo q c ks rs os read limit (answers.Refused n) b b
     unfolding mapRefusal

@@ -86,7 +86,7 @@ fn map_ranked(
     read: &[u8],
     limit: u64,
 ) -> MapAnswer
-    requires { ⌜ Lent (now bases) (now ends) (now ranked) × (SeedLength q × (every (λ s. every isCapital s) (rankedSequences (now bases) (now ends) (now ranked)) ≡ true)) ⌝ }
+    requires { ⌜ Lent (now bases) (now ends) (now ranked) × SeedLength q ⌝ }
     ensures { λ r. ⌜ Answered (unless (columnsOf (indexOf q (lentSequences bases ends ranked)) (old keys) (old ranks) (old positions)) 6 orElse readRefusal (old read) limit orElse roomRefusal (entryCount (old entries)) limit (length (groups (lentSequences bases ends ranked) (old read)))) (old ranked) (length (old read)) limit (groups (lentSequences bases ends ranked) (old read)) (work q (lentSequences bases ends ranked) (old read) limit) r (old entries) (new entries) ⌝ }
 {
     if !is_index(keys, ranks, positions, bases, ends, ranked, q) {

@@ -192,7 +192,7 @@ fn map_ranked_reads(
     read_ends: &[usize],
     limit: u64,
 ) -> u64
-    requires { ⌜ Lent (now bases) (now ends) (now ranked) × (SeedLength q × (every (λ s. every isCapital s) (rankedSequences (now bases) (now ends) (now ranked)) ≡ true)) ⌝ }
+    requires { ⌜ Lent (now bases) (now ends) (now ranked) × SeedLength q ⌝ }
     ensures { λ r. ⌜ RankedReads q (lentSequences bases ends ranked) (old ranked) (old keys) (old ranks) (old positions) limit (old reads) (old «read_ends») r (old rows) (old entries) (new rows) (new entries) ⌝ }
 {
     if !is_index(keys, ranks, positions, bases, ends, ranked, q) {

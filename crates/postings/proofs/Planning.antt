@@ -11,10 +11,14 @@ use lib.Dec.{ltb, leb}
 use borrow.Author.Tests.{lt-ltb, leb-true, le-leb, lt-leb}
 use Rattle.lists.specs.Member.{_∈_}
 use Rattle.lists.proofs.Cases.{by-test, and-true}
-use Rattle.lists.proofs.Every.{∈-every}
+use Rattle.lists.specs.Filter.{every}
+use Rattle.lists.proofs.Cut.{length-cut}
+use Rattle.lists.proofs.Every.{every-at, ∈-every}
 use Rattle.lists.proofs.Member.{map-∈}
-use Rattle.promises.specs.Refusal.{unless, _orElse_}
-use Rattle.catalogue.specs.Catalogue.{Catalogue, Target, Valid, sequences, mapped, maxTargets}
+use Rattle.promises.specs.Refusal.{unless, _orElse_, Outcome, refused, accepted}
+use Rattle.promises.proofs.Refusing.{first-stands, outcome-refused}
+use Rattle.bases.specs.Base.{isCapital}
+use Rattle.catalogue.specs.Catalogue.{Catalogue, Target, Valid, properSequence, sequences, mapped, maxTargets}
 use Rattle.catalogue.specs.Ranking.{rankingRefusal, RanksOf, RankedAs}
 use Rattle.catalogue.specs.declared.ranks.Ranking.{Ranking}
 use Rattle.catalogue.specs.declared.ranks.Ranking.the-variants.{Refused, Ranked}
@@ -23,10 +27,15 @@ use Rattle.catalogue.proofs.Mapped.{mapped-∈, at-its-place}
 use Rattle.catalogue.proofs.Refusals.{valid}
 use Rattle.seeds.specs.Seeds.{keysOf, ranksOf, positionsOf, placed, Stored}
 use Rattle.index.specs.Index.{allSeeds, index, indexOf, mappedSequences, rankedSequences, seedRight, planRefusal, buildRefusal, indexRefusal, columnsOf, Lent, SeedLength}
-use Rattle.postings.specs.Answers.{planned, unlessRefused, PlanRanked, entries, Answers, BuiltAs, BuiltFrom}
+use Rattle.postings.specs.Answers.{planned, PlanRanked, entries, Builds, BuiltAs, BuiltFrom}
+use Rattle.postings.specs.declared.plan.Counts.{Counts}
 use Rattle.postings.specs.declared.plan.Built.{Built}
 use Rattle.postings.specs.declared.plan.Built.the-variants as builts
 use Rattle.index.proofs.Indexing.{length-index}
+
+-- how many targets are mapped, and how many postings there are
+abbrev counts : ℕ → ℕ → Counts
+counts k n = record { targets = k; postings = n }
 
 -- ---- the seed length
 
@@ -94,6 +103,7 @@ module _ (q : ℕ) (c : Catalogue) (r : Ranking) (buffer : List ℕ) (p : PlanRa
         total = b .total;
         few = omega (arith, ranked-count, within-buffer);
         places = rw (ranks .places) (∈-every (λ n. ltb n (length (c .baseEnds))) (map (λ (t : Target). t .place) (mapped c)) below);
+        capitals = rw ranked-mapped (∈-every (λ (s : List ℕ). every isCapital s) (mappedSequences c) proper);
       }
     where
       below : (n : ℕ) → n ∈ map (λ (t : Target). t .place) (mapped c) → ltb n (length (c .baseEnds)) ≡ true
@@ -102,14 +112,21 @@ module _ (q : ℕ) (c : Catalogue) (r : Ranking) (buffer : List ℕ) (p : PlanRa
           let a = at-its-place c (is-valid .bounds) (w .0) (mapped-∈ c (w .0) (w .1) .0) in
           lt-ltb n (length (c .baseEnds)) (omega (arith, w .2, a .0))
 
+      proper : (s : List ℕ) → s ∈ mappedSequences c → every isCapital s ≡ true
+      proper s m =
+          let w = map-∈ (λ (t : Target). t .bases) s (mapped c) m in
+          let a = at-its-place c (is-valid .bounds) (w .0) (mapped-∈ c (w .0) (w .1) .0) in
+          let l = every-at properSequence [] (sequences c) (is-valid .letters) (w .0 .place) (omega (arith, a .0, length-cut 0 (c .baseEnds) (c .bases))) in
+          and-true (ltb 0 (length s)) (every isCapital s) (ap properSequence (w .2 ∙ a .1) ∙ l) .1
+
   -- ---- what the calls answer
 
-  pub plan-done : (n : ℕ) → n ≡ length (allSeeds q 0 (rankedSequences (c .bases) (c .baseEnds) (take k buffer))) → (0, k, n) ≡ planned q c
+  pub plan-done : (n : ℕ) → n ≡ length (allSeeds q 0 (rankedSequences (c .bases) (c .baseEnds) (take k buffer))) → accepted (counts k n) ≡ planned q c
   plan-done n e =
       let m : n ≡ length (index q c) = e ∙ ap (λ ss. length (allSeeds q 0 ss)) ranked-mapped ∙ sym (length-index q (mappedSequences c)) in
-      rw no-refusal (λ i. (0, ranks .count i, m i))
+      rw no-refusal (ap₂ (λ x y. accepted (counts x y)) (ranks .count) m)
 
-  pub build-done : (b : Built) (ks rs os ks′ rs′ os′ : List ℕ) → BuiltFrom (indexOf q (rankedSequences (c .bases) (c .baseEnds) (take k buffer))) b ks rs os ks′ rs′ os′ → BuiltAs q c b ks rs os ks′ rs′ os′
+  pub build-done : (b : Built) (ks rs os ks′ rs′ os′ : List ℕ) → BuiltFrom q (rankedSequences (c .bases) (c .baseEnds) (take k buffer)) b ks rs os ks′ rs′ os′ → BuiltAs q c b ks rs os ks′ rs′ os′
   unfolding buildRefusal
   build-done b ks rs os ks′ rs′ os′ h = rw no-refusal (rw ranked-mapped at h)
 
@@ -119,48 +136,39 @@ module _ (q : ℕ) (c : Catalogue) (r : Ranking) (buffer : List ℕ) (p : PlanRa
 
 -- ---- refusals of the ranking
 
-module _ (q : ℕ) (c : Catalogue) (r : Ranking) (buffer : List ℕ) (p : PlanRanked q c r buffer) (n : ℕ) (refused : r ≡ Refused n) where
+module _ (q : ℕ) (c : Catalogue) (r : Ranking) (buffer : List ℕ) (p : PlanRanked q c r buffer) (n : ℕ) (told : r ≡ Refused n) where
   number : planRefusal q c ≡ n
-  number = sym (p .refusal) ∙ ap rankingRefusal refused
+  number = sym (p .refusal) ∙ ap rankingRefusal told
 
   not-zero : n ≡ 0 → ⊥
-  not-zero = rw refused at (p .ranks)
+  not-zero = rw told at (p .ranks)
 
-  pub plan-refused : (n, 0, 0) ≡ planned q c
-  plan-refused = rw number (go n not-zero)
-    where
-      go : (m : ℕ) → (m ≡ 0 → ⊥) → (m, 0, 0) ≡ unlessRefused m (length (mapped c)) (length (index q c))
-      go zero ne = absurd (ne refl)
-      go (suc m) ne = refl
+  pub plan-refused : refused n ≡ planned q c
+  plan-refused = rw number (outcome-refused n _ not-zero)
 
   pub build-refused : (ks rs os : List ℕ) → BuiltAs q c (builts.Refused n) ks rs os ks rs os
   unfolding buildRefusal
   build-refused ks rs os = rw number (go n not-zero)
     where
-      go : (m : ℕ) → (m ≡ 0 → ⊥) → Answers (m orElse unless (leb (length (index q c)) (entries ks rs os)) 5) (index q c) (builts.Refused m) ks rs os ks rs os
+      go : (m : ℕ) → (m ≡ 0 → ⊥) → Builds (m orElse unless (leb (length (index q c)) (entries ks rs os)) 5) (index q c) (builts.Refused m) ks rs os ks rs os
       go zero ne = absurd (ne refl)
-      go (suc m) ne = record { refused = refl; count = refl; keys = refl; ranks = refl; positions = refl }
+      go (suc m) ne = record { answer = refl; keys = refl; ranks = refl; positions = refl }
 
   pub test-refused : (ks rs os : List ℕ) → n ≡ indexRefusal q c ks rs os
   unfolding indexRefusal
-  test-refused ks rs os = rw number (go n not-zero)
-    where
-      go : (m : ℕ) → (m ≡ 0 → ⊥) → m ≡ (m orElse unless (columnsOf (index q c) ks rs os) 6)
-      go zero ne = absurd (ne refl)
-      go (suc m) ne = refl
+  test-refused ks rs os = rw number (first-stands n _ not-zero)
 
 -- ---- room
 
 module _ (q : ℕ) (ss : List (List ℕ)) (ks rs os : List ℕ) where
-  pub no-room : entries ks rs os < length (allSeeds q 0 ss) → BuiltFrom (indexOf q ss) (builts.Refused 5) ks rs os ks rs os
-  no-room h = rw (lt-leb (length (indexOf q ss)) (entries ks rs os) (omega (arith, length-index q ss))) (record { refused = refl; count = refl; keys = refl; ranks = refl; positions = refl })
+  pub no-room : entries ks rs os < length (allSeeds q 0 ss) → BuiltFrom q ss (builts.Refused 5) ks rs os ks rs os
+  no-room h = rw (lt-leb (length (indexOf q ss)) (entries ks rs os) (omega (arith, length-index q ss))) (record { answer = refl; keys = refl; ranks = refl; positions = refl })
 
-  pub with-room : (n : ℕ) → n ≡ length (allSeeds q 0 ss) → n ≤ entries ks rs os → (ks′ rs′ os′ : List ℕ) → Stored 0 (indexOf q ss) ks rs os ks′ rs′ os′ → BuiltFrom (indexOf q ss) (builts.Built n) ks rs os ks′ rs′ os′
+  pub with-room : (n : ℕ) → n ≡ length (allSeeds q 0 ss) → n ≤ entries ks rs os → (ks′ rs′ os′ : List ℕ) → Stored 0 (indexOf q ss) ks rs os ks′ rs′ os′ → BuiltFrom q ss (builts.Built n) ks rs os ks′ rs′ os′
   with-room n e h ks′ rs′ os′ s =
       rw (le-leb (length (indexOf q ss)) (entries ks rs os) (omega (arith, length-index q ss)))
       (record {
-        refused = refl;
-        count = e ∙ sym (length-index q ss);
+        answer = ap accepted (e ∙ sym (length-index q ss));
         keys = s .keys ∙ front (keysOf (indexOf q ss)) ks;
         ranks = s .ranks ∙ front (ranksOf (indexOf q ss)) rs;
         positions = s .positions ∙ front (positionsOf (indexOf q ss)) os;

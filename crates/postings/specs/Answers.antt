@@ -4,13 +4,14 @@ use mathlib.Core.List.{List, _++_}
 use Prim.Native.Nat.{ℕ, zero, suc, min}
 use lib.ListN.{length, drop}
 use lib.Dec.{leb}
-use Rattle.promises.specs.Refusal.{unless}
+use Rattle.promises.specs.Refusal.{unless, Outcome, refused, accepted, outcome}
 use Rattle.catalogue.specs.Catalogue.{Catalogue, mapped}
 use Rattle.catalogue.specs.Ranking.{rankingRefusal, RanksIn}
 use Rattle.catalogue.specs.declared.ranks.Ranking.{Ranking}
 use Rattle.columns.specs.Posting.{Posting}
 use Rattle.seeds.specs.Seeds.{keysOf, ranksOf, positionsOf}
-use Rattle.index.specs.Index.{index, planRefusal, buildRefusal}
+use Rattle.index.specs.Index.{indexOf, index, planRefusal, buildRefusal}
+use Rattle.postings.specs.declared.plan.Counts.{Counts}
 use Rattle.postings.specs.declared.plan.IndexPlan.{IndexPlan}
 use Rattle.postings.specs.declared.plan.IndexPlan.the-variants as plans
 use Rattle.postings.specs.declared.plan.Built.{Built}
@@ -18,18 +19,14 @@ use Rattle.postings.specs.declared.plan.Built.the-variants as builts
 
 -- ---- plan
 
--- an answer as refusal, mapped targets and postings
-abbrev pub planAnswer : IndexPlan → ℕ × ℕ × ℕ
-planAnswer (plans.Refused n) = (n, 0, 0)
-planAnswer (plans.Planned k) = (0, k .targets, k .postings)
+-- what each answer of `plan` stands for
+abbrev pub planOutcome : IndexPlan → Outcome Counts
+planOutcome (plans.Refused n) = refused n
+planOutcome (plans.Planned counts) = accepted counts
 
--- the numbers of a plan that is not refused
-abbrev pub unlessRefused : ℕ → ℕ → ℕ → ℕ × ℕ × ℕ
-unlessRefused zero targets postings = (0, targets, postings)
-unlessRefused (suc n) targets postings = (suc n, 0, 0)
-
-abbrev pub planned : ℕ → Catalogue → ℕ × ℕ × ℕ
-planned q c = unlessRefused (planRefusal q c) (length (mapped c)) (length (index q c))
+-- refused, or the numbers of mapped targets and of postings
+abbrev pub planned : ℕ → Catalogue → Outcome Counts
+planned q c = outcome (planRefusal q c) (record { targets = length (mapped c); postings = length (index q c) })
 
 -- the ranking of a catalogue whose seed length is tested too
 pub record PlanRanked (q : ℕ) (c : Catalogue) (r : Ranking) (buffer : List ℕ) : Type 0 where
@@ -38,15 +35,10 @@ pub record PlanRanked (q : ℕ) (c : Catalogue) (r : Ranking) (buffer : List ℕ
 
 -- ---- build
 
--- the refusal that an answer stands for
-abbrev pub builtRefusal : Built → ℕ
-builtRefusal (builts.Refused n) = n
-builtRefusal (builts.Built k) = 0
-
--- the number of postings that an answer gives
-abbrev pub builtCount : Built → ℕ
-builtCount (builts.Refused n) = 0
-builtCount (builts.Built k) = k
+-- what each answer of `build` stands for
+abbrev pub builtOutcome : Built → Outcome ℕ
+builtOutcome (builts.Refused n) = refused n
+builtOutcome (builts.Built k) = accepted k
 
 -- entries are what the shortest column holds
 abbrev pub entries : List ℕ → List ℕ → List ℕ → ℕ
@@ -57,22 +49,16 @@ abbrev pub leftIn : ℕ → List ℕ → List ℕ → List ℕ
 leftIn zero xs buffer = xs ++ drop (length xs) buffer
 leftIn (suc n) xs buffer = buffer
 
--- how many are built
-abbrev pub countUnless : ℕ → ℕ → ℕ
-countUnless zero count = count
-countUnless (suc n) count = 0
-
--- an answer of a refusal, and columns that hold postings unless it is one
-pub record Answers (refusal : ℕ) (ps : List Posting) (r : Built) (ks rs os ks′ rs′ os′ : List ℕ) : Type 0 where
-  pub refused : builtRefusal r ≡ refusal
-  pub count : builtCount r ≡ countUnless refusal (length ps)
+-- refused with no column touched, or the number of postings, which the columns hold
+pub record Builds (refusal : ℕ) (ps : List Posting) (r : Built) (ks rs os ks′ rs′ os′ : List ℕ) : Type 0 where
+  pub answer : builtOutcome r ≡ outcome refusal (length ps)
   pub keys : ks′ ≡ leftIn refusal (keysOf ps) ks
   pub ranks : rs′ ≡ leftIn refusal (ranksOf ps) rs
   pub positions : os′ ≡ leftIn refusal (positionsOf ps) os
 
 abbrev pub BuiltAs : ℕ → Catalogue → Built → List ℕ → List ℕ → List ℕ → List ℕ → List ℕ → List ℕ → Type 0
-BuiltAs q c r ks rs os ks′ rs′ os′ = Answers (buildRefusal q c (entries ks rs os)) (index q c) r ks rs os ks′ rs′ os′
+BuiltAs q c r ks rs os ks′ rs′ os′ = Builds (buildRefusal q c (entries ks rs os)) (index q c) r ks rs os ks′ rs′ os′
 
--- the same for an index of sequences that need no test but for room
-abbrev pub BuiltFrom : List Posting → Built → List ℕ → List ℕ → List ℕ → List ℕ → List ℕ → List ℕ → Type 0
-BuiltFrom ps r ks rs os ks′ rs′ os′ = Answers (unless (leb (length ps) (entries ks rs os)) 5) ps r ks rs os ks′ rs′ os′
+-- the same for ranked sequences, which need no test but for room
+abbrev pub BuiltFrom : ℕ → List (List ℕ) → Built → List ℕ → List ℕ → List ℕ → List ℕ → List ℕ → List ℕ → Type 0
+BuiltFrom q ss r ks rs os ks′ rs′ os′ = Builds (unless (leb (length (indexOf q ss)) (entries ks rs os)) 5) (indexOf q ss) r ks rs os ks′ rs′ os′

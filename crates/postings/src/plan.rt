@@ -4,8 +4,8 @@ ghost use Prim.Native.Nat.{_≤_};
 ghost use lib.ListN.{length};
 ghost use Rattle.promises.specs.Slice.{old, new};
 ghost use Rattle.catalogue.specs.Catalogue.{lentCatalogue};
-ghost use Rattle.index.specs.Index.{Lent, SeedLength, indexOf, indexRefusal, lentSequences};
-ghost use Rattle.postings.specs.Answers.{planAnswer, planned, PlanRanked, BuiltAs, BuiltFrom};
+ghost use Rattle.index.specs.Index.{Lent, SeedLength, indexRefusal, lentSequences};
+ghost use Rattle.postings.specs.Answers.{planOutcome, planned, PlanRanked, BuiltAs, BuiltFrom};
 use catalogue::ranks::Ranking;
 use catalogue::ranks::rank_targets;
 use index::build::build_index;
@@ -67,7 +67,7 @@ pub fn plan(
     marks: &[u8],
     q: usize,
 ) -> IndexPlan
-    ensures { λ r. ⌜ planAnswer r ≡ planned q (lentCatalogue identifiers «identifier_ends» bases «base_ends» marks) ⌝ }
+    ensures { λ r. ⌜ planOutcome r ≡ planned q (lentCatalogue identifiers «identifier_ends» bases «base_ends» marks) ⌝ }
 {
     let mut places = [0usize; 4096];
     let ranking = rank_checked(
@@ -99,7 +99,7 @@ fn build_ranked(
     q: usize,
 ) -> Built
     requires { ⌜ Lent (now bases) (now ends) (now ranked) × SeedLength q ⌝ }
-    ensures { λ r. ⌜ BuiltFrom (indexOf q (lentSequences bases ends ranked)) r (old keys) (old ranks) (old positions) (new keys) (new ranks) (new positions) ⌝ }
+    ensures { λ r. ⌜ BuiltFrom q (lentSequences bases ends ranked) r (old keys) (old ranks) (old positions) (new keys) (new ranks) (new positions) ⌝ }
 {
     let n = count_postings(bases, ends, ranked, q);
     if keys.len() < n {

@@ -34,7 +34,7 @@ module _ (bases ends ranked read : List ℕ) (s : Searchable bases ends ranked r
     fit-inside = omega (arith, f .inside, ap length e)
 
     pub fit-capitals : every isCapital sequence ≡ true
-    fit-capitals = ap (every isCapital) e ∙ every-at (λ (l : List ℕ). every isCapital l) [] (rankedSequences bases ends ranked) (s .capitals) (p .rank) (f .ranked)
+    fit-capitals = ap (every isCapital) e ∙ every-at (λ (l : List ℕ). every isCapital l) [] (rankedSequences bases ends ranked) (s .lent .capitals) (p .rank) (f .ranked)
 
     -- what a comparison with the sequence tells
     pub fit-matches : (b : Bool) → b ≡ same (window sequence (p .start) (length read)) (oriented (p .strand) (folded read)) → matches (rankedSequences bases ends ranked) read p ≡ b

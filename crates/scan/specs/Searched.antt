@@ -12,10 +12,9 @@ use Rattle.index.specs.Index.{rankedSequences, Lent}
 use Rattle.places.specs.Place.{Place, folded, matches}
 use Rattle.scan.specs.Entries.{entriesOf}
 
--- what a search is lent: sequences of capitals by rank, and a read of letters in either case within its bound
+-- what a search is lent: sequences, and a read of letters in either case within its bound
 pub record Searchable (bases ends ranked read : List ℕ) : Type 0 where
   pub lent : Lent bases ends ranked
-  pub capitals : every (λ (s : List ℕ). every isCapital s) (rankedSequences bases ends ranked) ≡ true
   pub letters : every isCapital (folded read) ≡ true
   pub short : length read ≤ 65535
 

@@ -47,10 +47,9 @@ pub record Concluded (limit bound : ℕ) (w : MappingWork) (r : MapAnswer) (buff
       answerOf r ≡ cond (ltb bound (w .seen)) (cond (ltb (entryCount buffer) limit) (refusedBy 10) (mappedAs 2 0 (workOf w))) (mappedAs (stateOf (w .seen)) (w .seen) (workOf w))
   pub entries : buffer′ ≡ cond (ltb bound (w .seen)) (cleared buffer) buffer
 
--- what mapping many reads is lent: sequences of capitals by rank, and columns that are their index
+-- what mapping reads is lent: sequences, and columns that are their index
 pub record Mappable (q : ℕ) (bases ends ranked ks rs os : List ℕ) : Type 0 where
   pub lent : Lent bases ends ranked
-  pub capitals : every (λ (s : List ℕ). every isCapital s) (rankedSequences bases ends ranked) ≡ true
   pub seed : SeedLength q
   pub indexed : Indexed q (rankedSequences bases ends ranked) ks rs os
 

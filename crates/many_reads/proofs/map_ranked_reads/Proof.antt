@@ -39,7 +39,7 @@ map-shares-requires c κs =
     let a = z .args in
     let ss = rankedSequences (a .bases .now) (a .ends .now) (a .ranked .now) in
     let fits = list-fits (a .limit) (a .reads .now) (a .read-ends .now) (length (a .rows .now)) (sym (c .before .before .before .before .check-reads .ensures) ∙ c .before .before .before .if2 .left) in
-    ((mappable _ _ _ _ _ _ _ (z .pre .0) (z .pre .1 .0) (z .pre .1 .1) (sym (c .before .before .before .before .before .before .is-index .ensures) ∙ not-false _ (c .before .before .before .before .before .if1 .left)), fits .0), (fits .1, shares-fit (c .before .before .share-of .result) (length (a .read-ends .now)) (length (a .entries .now)) (c .before .before .share-of .ensures .0)))
+    ((mappable _ _ _ _ _ _ _ (z .pre .0) (z .pre .1) (sym (c .before .before .before .before .before .before .is-index .ensures) ∙ not-false _ (c .before .before .before .before .before .if1 .left)), fits .0), (fits .1, shares-fit (c .before .before .share-of .result) (length (a .read-ends .now)) (length (a .entries .now)) (c .before .before .share-of .ensures .0)))
 
 same-length : tie.Need-same-length
 same-length c = search needs

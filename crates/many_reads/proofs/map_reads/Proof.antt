@@ -2,7 +2,6 @@
 -- Assumes nothing.
 use native.Mathlib.Omega.{arith}
 use Rattle.postings.proofs.Planning.{within-buffer, prefix-length, lent, seed-length}
-use Rattle.indexed_mapper.proofs.Mapping.{ranked-capitals}
 use Rattle.many_reads.proofs.Listing.{reads-refused, reads-done}
 use borrow.Author.Needs.{needs}
 use Rattle.many_reads.proofs.map_reads.Statement.{statement}
@@ -36,7 +35,7 @@ map-ranked-reads-requires : tie.Need-map-ranked-reads-requires
 map-ranked-reads-requires c κs =
     let r = c .before .before .before .before .before .before .before .rank-checked in
     let g = c .before .before .before .before .ranking2 .given in
-    (lent _ _ _ _ (r .ensures) _ (g .1) (omega (arith, r .kept .0)), (seed-length _ _ _ _ (r .ensures) _ (g .1), ranked-capitals _ _ _ _ (r .ensures) _ (g .1)))
+    (lent _ _ _ _ (r .ensures) _ (g .1) (omega (arith, r .kept .0)), seed-length _ _ _ _ (r .ensures) _ (g .1))
 
 returns : tie.Need-returns
 returns c =

@@ -2,7 +2,7 @@
 -- Assumes nothing.
 use native.Mathlib.Omega.{arith}
 use Rattle.postings.proofs.Planning.{within-buffer, prefix-length, lent, seed-length}
-use Rattle.indexed_mapper.proofs.Mapping.{ranked-capitals, map-refused, map-done}
+use Rattle.indexed_mapper.proofs.Mapping.{map-refused, map-done}
 use borrow.Author.Needs.{needs}
 use Rattle.indexed_mapper.proofs.map.map.Statement.{statement}
 use Rattle.indexed_mapper.proofs.map.map.Tie as tie
@@ -35,7 +35,7 @@ map-ranked-requires : tie.Need-map-ranked-requires
 map-ranked-requires c κs =
     let r = c .before .before .before .before .before .before .rank-checked in
     let g = c .before .before .before .ranking2 .given in
-    (lent _ _ _ _ (r .ensures) _ (g .1) (omega (arith, r .kept .0)), (seed-length _ _ _ _ (r .ensures) _ (g .1), ranked-capitals _ _ _ _ (r .ensures) _ (g .1)))
+    (lent _ _ _ _ (r .ensures) _ (g .1) (omega (arith, r .kept .0)), seed-length _ _ _ _ (r .ensures) _ (g .1))
 
 returns : tie.Need-returns
 returns c =

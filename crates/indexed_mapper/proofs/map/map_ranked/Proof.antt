@@ -16,7 +16,7 @@ returns c = index-refused _ _ _ _ _ _ _ _ (sym (c .before .is-index .ensures) �
 map-read-requires : tie.Need-map-read-requires
 map-read-requires c κs =
     let p = c .before .before .before .before .before .before .before .before .before .before .before .pre in
-    mappable _ _ _ _ _ _ _ (p .0) (p .1 .0) (p .1 .1) (sym (c .before .before .is-index .ensures) ∙ not-false _ (c .before .if1 .left))
+    mappable _ _ _ _ _ _ _ (p .0) (p .1) (sym (c .before .before .is-index .ensures) ∙ not-false _ (c .before .if1 .left))
 
 same-length : tie.Need-same-length
 same-length c = search needs
