@@ -45,6 +45,10 @@ lies ss n o p = fits (length (getD ss (p .rank) [])) n o (p .position)
 abbrev pub candidate : ℕ → ℕ → Posting → Place
 candidate strand o p = place (p .rank) (p .position - o) strand
 
+-- a read shorter than a seed is compared at every start
+abbrev pub everyStart : ℕ → List ℕ → Bool
+everyStart q read = ltb (length read) q
+
 module _ (q : ℕ) (ss : List (List ℕ)) (read : List ℕ) where
   -- the postings of the seed at an offset of the read as it lies on a strand
   abbrev pub seedHits : ℕ → ℕ → List Posting
@@ -70,9 +74,9 @@ module _ (q : ℕ) (ss : List (List ℕ)) (read : List ℕ) where
 
   -- ---- the compared list
 
-  -- of a read shorter than a seed every place, else the candidates of both strands, ascending
+  -- of a read that is compared at every start every place, else the candidates of both strands, ascending
   unfoldable pub comparable : List Place
-  comparable = cond (ltb (length read) q) (places (length read) ss) (merge before (candidates 0) (candidates 1))
+  comparable = cond (everyStart q read) (places (length read) ss) (merge before (candidates 0) (candidates 1))
 
   -- stopped at the first match past the limit
   abbrev pub compared : ℕ → List Place

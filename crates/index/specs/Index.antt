@@ -79,6 +79,10 @@ pub record Lent (bases ends ranked : List ℕ) : Type 0 where
   pub places : every (λ p. ltb p (length ends)) ranked ≡ true
   pub capitals : every (λ (s : List ℕ). every isCapital s) (rankedSequences bases ends ranked) ≡ true
 
+-- no more starts than this in as many sequences of as many bases as a catalogue can have
+abbrev pub maxStarts : ℕ
+maxStarts = 68719476736
+
 -- a seed length within its bound
 pub record SeedLength (q : ℕ) : Type 0 where
   pub some : 1 ≤ q

@@ -18,7 +18,7 @@ use catalogue::ranks::Ranking;
 use index::test::is_index;
 use postings::plan::rank_checked;
 use search::answer::MapAnswer;
-use search::search::search;
+use search::search;
 
 // Tests a read and a limit: refusals 7, 8 and 9, or 0.
 pub fn check_read(read: &[u8], limit: u64) -> u64

@@ -18,12 +18,16 @@ pub record Searchable (bases ends ranked read : List ℕ) : Type 0 where
   pub letters : every isCapital (folded read) ≡ true
   pub short : length read ≤ 65535
 
+-- no count of a search passes this, so that two of them can be added in 64 bits
+abbrev pub maxCount : ℕ
+maxCount = 1152921504606846976
+
 -- a search under way: its matches are within the bound, the entries have room for as many as the bound, and at least
 -- `more` places can still be counted
 pub record Going (bound more comparisons seen : ℕ) (buffer : List ℕ) : Type 0 where
   pub within : seen ≤ bound
   pub room : 4 * bound ≤ length buffer
-  pub countable : comparisons + more ≤ 1152921504606846976
+  pub countable : comparisons + more ≤ maxCount
 
 -- the places of a list that are compared where `seen` matches were found before
 abbrev pub looked : List (List ℕ) → List ℕ → ℕ → List Place → ℕ → List Place

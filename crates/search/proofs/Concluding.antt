@@ -14,6 +14,7 @@ use Rattle.lists.specs.Filter.{filter}
 use Rattle.lists.specs.Limit.{stopped}
 use Rattle.lists.proofs.Cases.{by-test}
 use Rattle.lists.proofs.Limit.{filter-stopped, stopped-whole}
+use Rattle.promises.specs.Refusal.{Outcome, refused, accepted}
 use Rattle.seeds.specs.Seeds.{placed}
 use Rattle.seeds.proofs.Storing.{placed-none, length-placed}
 use Rattle.places.specs.Place.{Place, places, matches, groups}
@@ -22,8 +23,8 @@ use Rattle.candidates.proofs.Candidates.{comparable-groups}
 use Rattle.scan.specs.Entries.{entriesOf, entryCount, cleared}
 use Rattle.scan.specs.Searched.{Searched}
 use Rattle.scan.proofs.Going.{length-entries}
-use Rattle.search.specs.Work.{Work, work, scanWork}
-use Rattle.search.specs.Answer.{stateNumber, workOf, answerOf, refusedBy, mappedAs, stateOf, roomRefusal, Answered}
+use Rattle.search.specs.Work.{workOf, work, scanWork, Way, byIndex, plain, workBy}
+use Rattle.search.specs.Answer.{stateNumber, answerOf, row, stateOf, roomRefusal, Answered, SearchAnswered}
 use Rattle.search.specs.Steps.{Found, Concluded}
 use Rattle.search.specs.declared.answer.MappingWork.{MappingWork}
 use Rattle.search.specs.declared.answer.MapAnswer.{MapAnswer}
@@ -39,7 +40,7 @@ state-many (suc (suc n)) a b = refl
 -- ---- the work of a search under each bound
 
 -- it sees one match past the bound, if there is one; where there is none, the bound changes nothing
-pub record Bounded (gs : List Place) (w : ℕ → Work) : Type 0 where
+pub record Bounded (gs : List Place) (w : ℕ → MappingWork) : Type 0 where
   pub sees : (n : ℕ) → w n .seen ≡ min (suc n) (length gs)
   pub same : (n m : ℕ) → length gs ≤ n → length gs ≤ m → w n ≡ w m
 
@@ -139,7 +140,7 @@ module _ (entries limit matched : ℕ) where
 
 -- ---- the answer
 
-module _ (ss : List (List ℕ)) (ranked read : List ℕ) (limit bound : ℕ) (w : ℕ → Work) (bounded : Bounded (groups ss read) w) (b b′ b″ : List ℕ) (m : MappingWork) (r : MapAnswer) where
+module _ (ss : List (List ℕ)) (ranked read : List ℕ) (limit bound : ℕ) (way : Way) (bounded : Bounded (groups ss read) (λ n. workBy way ss read n)) (b b′ b″ : List ℕ) (m : MappingWork) (r : MapAnswer) where
   abbrev gs : List Place
   gs = groups ss read
 
@@ -150,14 +151,14 @@ module _ (ss : List (List ℕ)) (ranked read : List ℕ) (limit bound : ℕ) (w 
   rows = entriesOf ranked (length read) (take bound gs)
 
   abbrev Goal : Type 0
-  Goal = Answered (roomRefusal entries limit (length gs)) ranked (length read) limit gs (w limit) r b b″
+  Goal = SearchAnswered way ss ranked read limit r b b″
 
-  module _ (f : Found ss ranked read bound (w bound) (workOf m) (cleared b) b′) (e : bound ≡ min limit (entryCount (cleared b))) (c : Concluded limit bound m r b′ b″) where
+  module _ (f : Found way ss ranked read bound m (cleared b) b′) (e : bound ≡ min limit (entryCount (cleared b))) (c : Concluded limit bound m r b′ b″) where
     bound-is : bound ≡ min limit entries
     bound-is = e ∙ ap (λ n. min limit (n / 4)) (length-cleared b)
 
     seen-is : m .seen ≡ min (suc bound) (length gs)
-    seen-is = ap (λ (x : Work). x .seen) (f .work-is) ∙ bounded .sees bound
+    seen-is = ap (λ (x : MappingWork). x .seen) (f .work-is) ∙ bounded .sees bound
 
     rows-fit : length rows ≤ 4 * entries
     rows-fit = omega (arith, length-entries ranked (length read) (take bound gs), length-take bound gs, bound-is)
@@ -167,11 +168,11 @@ module _ (ss : List (List ℕ)) (ranked read : List ℕ) (limit bound : ℕ) (w 
     few t =
         let n : length gs ≤ bound = omega (arith, seen-is, ltb-false bound (m .seen) t) in
         let s : m .seen ≡ length gs = omega (arith, seen-is) in
-        let same : workOf m ≡ w limit = f .work-is ∙ bounded .same bound limit n (omega (arith, bound-is)) in
+        let same : m ≡ workBy way ss read limit = f .work-is ∙ bounded .same bound limit n (omega (arith, bound-is)) in
         let l : ltb limit (length gs) ≡ false = le-ltb limit (length gs) (omega (arith, bound-is)) in
         rw (room-listed entries limit (length gs) (omega (arith, bound-is)))
         (record {
-          answer = rw l (rw t at (c .answer) ∙ ap (λ k. mappedAs (stateOf k) k (workOf m)) s ∙ ap (λ x. mappedAs (stateOf (length gs)) (length gs) x) same);
+          answer = rw l (rw t at (c .answer) ∙ ap (λ k. accepted (row (stateOf k) k m)) s ∙ ap (λ x. accepted (row (stateOf (length gs)) (length gs) x)) same);
           entries = rw l (rw t at (c .entries) ∙ f .content ∙ ap (λ l. placed 0 (entriesOf ranked (length read) l) (cleared b)) (take-all bound gs n));
         })
 
@@ -185,7 +186,7 @@ module _ (ss : List (List ℕ)) (ranked read : List ℕ) (limit bound : ℕ) (w 
       zero-again : b″ ≡ cleared b
       zero-again = rw t at (c .entries) ∙ ap (λ l. cleared l) (f .content) ∙ cleared-again b rows rows-fit
 
-      answer-is : answerOf r ≡ cond (ltb entries limit) (refusedBy 10) (mappedAs 2 0 (workOf m))
+      answer-is : answerOf r ≡ cond (ltb entries limit) (refused 10) (accepted (row 2 0 m))
       answer-is = rw (t, room-is) at (c .answer)
 
       -- more groups than entries, and entries fewer than the limit
@@ -202,19 +203,19 @@ module _ (ss : List (List ℕ)) (ranked read : List ℕ) (limit bound : ℕ) (w 
           let z : bound ≡ limit = omega (arith, bound-is) in
           let l : ltb limit (length gs) ≡ true = lt-ltb limit (length gs) (omega (arith, more)) in
           rw (roomy entries limit (length gs) k)
-          (record { answer = rw l (rw u at answer-is ∙ ap (λ x. mappedAs 2 0 x) (f .work-is ∙ ap w z)); entries = rw l (zero-again ∙ placed-none 0 (cleared b)) })
+          (record { answer = rw l (rw u at answer-is ∙ ap (λ x. accepted (row 2 0 x)) (f .work-is ∙ ap (λ n. workBy way ss read n) z)); entries = rw l (zero-again ∙ placed-none 0 (cleared b)) })
 
     answered : Goal
     answered = by-test (ltb bound (m .seen)) (λ t. by-test (ltb entries limit) (short t) (past t)) few
 
   -- the answer by the matches seen under the lesser of limit and entries is that of the limit
-  pub search-answered : (b₀ : List ℕ) → b₀ ≡ cleared b → bound ≡ min limit (entryCount b₀) → Found ss ranked read bound (w bound) (workOf m) b₀ b′ → Concluded limit bound m r b′ b″ → Goal
+  pub search-answered : (b₀ : List ℕ) → b₀ ≡ cleared b → bound ≡ min limit (entryCount b₀) → Found way ss ranked read bound m b₀ b′ → Concluded limit bound m r b′ b″ → Goal
   search-answered b₀ z e f c = answered (rw z at f) (rw z at e) c
 
 -- ---- the search at every start
 
 module _ (ss : List (List ℕ)) (ranked read : List ℕ) (bound comparisons seen : ℕ) (b b′ : List ℕ) where
-  pub scan-found : Searched ss ranked read bound (places (length read) ss) 0 0 b comparisons seen b′ → (w : Work) → w ≡ record { lookups = 0; hits = 0; examined = 0; comparisons = comparisons; seen = seen } → Found ss ranked read bound (scanWork ss read bound) w b b′
+  pub scan-found : Searched ss ranked read bound (places (length read) ss) 0 0 b comparisons seen b′ → (w : MappingWork) → w ≡ workOf 0 0 0 (record { comparisons = comparisons; seen = seen }) → Found plain ss ranked read bound w b b′
   unfolding scanWork groups
   scan-found s w e =
       let none : bound - 0 ≡ bound = omega arith in
@@ -222,6 +223,6 @@ module _ (ss : List (List ℕ)) (ranked read : List ℕ) (bound comparisons seen
       let cs : comparisons ≡ length (stopped (matches ss read) ps bound) = s .comparisons-are ∙ zero-add _ ∙ ap (λ n. length (stopped (matches ss read) ps n)) none in
       let ms : seen ≡ length (filter (matches ss read) (stopped (matches ss read) ps bound)) = s .seen-are ∙ zero-add _ ∙ ap (λ n. length (filter (matches ss read) (stopped (matches ss read) ps n))) none in
       record {
-        work-is = e ∙ (λ i. record { lookups = 0; hits = 0; examined = 0; comparisons = cs i; seen = ms i });
+        work-is = e ∙ (λ i. workOf 0 0 0 (record { comparisons = cs i; seen = ms i }));
         content = s .content ∙ ap (λ n. placed 0 (entriesOf ranked (length read) (take n (filter (matches ss read) (stopped (matches ss read) ps n)))) b) none ∙ ap (λ l. placed 0 (entriesOf ranked (length read) (take bound l)) b) (filter-stopped (matches ss read) ps bound) ∙ ap (λ l. placed 0 (entriesOf ranked (length read) l) b) (take-take bound (suc bound) (filter (matches ss read) ps) (omega arith));
       }

@@ -30,16 +30,16 @@ use Rattle.scan.specs.Entries.{entriesOf}
 use Rattle.scan.specs.Searched.{looked, Searched}
 use Rattle.scan.specs.declared.visit.Tally.{Tally}
 use Rattle.scan.proofs.Going.{searched-whole, searched-seen}
-use Rattle.search.specs.Work.{Work, onStrand, passed, work}
-use Rattle.search.specs.Answer.{workOf}
-use Rattle.search.specs.Steps.{Found, IndexWork}
+use Rattle.search.specs.Work.{onStrand, passed, tallied, workOf, work, byIndex}
+use Rattle.search.specs.Steps.{Found, indexWork}
 use Rattle.search.specs.declared.answer.MappingWork.{MappingWork}
 use Rattle.search.proofs.Seeking.{chosen-offset, chosen-lookups, chosen-hits, in-index}
 use Rattle.search.proofs.Siding.{side-examined}
 use Rattle.search.proofs.Merging.{Chosen, SideOf, Both, both-stop, next-whole, behind, plus-none, minus-none}
 
-work-eq : (v w : Work) → v .lookups ≡ w .lookups → v .hits ≡ w .hits → v .examined ≡ w .examined → v .comparisons ≡ w .comparisons → v .seen ≡ w .seen → v ≡ w
-work-eq v w a b c d e = λ i. record { lookups = a i; hits = b i; examined = c i; comparisons = d i; seen = e i }
+-- equal counts make equal work
+work-eq : {l l′ h h′ e e′ : ℕ} {t t′ : Tally} → l ≡ l′ → h ≡ h′ → e ≡ e′ → t .comparisons ≡ t′ .comparisons → t .seen ≡ t′ .seen → workOf l h e t ≡ workOf l′ h′ e′ t′
+work-eq a b c d e = λ i. record { lookups = a i; hits = b i; examined = c i; comparisons = d i; seen = e i }
 
 -- the entries after a search of a list that has the matches of all places
 pub searched-content : (ss : List (List ℕ)) (ranked read : List ℕ) (bound : ℕ) (xs : List Place) (c s : ℕ) (buffer b : List ℕ) → filter (matches ss read) xs ≡ groups ss read → Searched ss ranked read bound xs 0 0 buffer c s b → b ≡ placed 0 (entriesOf ranked (length read) (take bound (groups ss read))) buffer
@@ -47,7 +47,7 @@ searched-content ss ranked read bound xs c s buffer b e t =
     let z : bound - 0 ≡ bound = omega arith in
     rw z at (t .content) ∙ ap (λ l. placed 0 (entriesOf ranked (length read) l) buffer) (ap (take bound) (filter-stopped (matches ss read) xs bound ∙ ap (take (suc bound)) e) ∙ take-take bound (suc bound) (groups ss read) (omega arith))
 
-module _ (q : ℕ) (ss : List (List ℕ)) (ranked read : List ℕ) (bound : ℕ) (plus minus : SeedChoice) (buffer ks rs os : List ℕ) (ch : Chosen q ss read ks rs os plus minus) where
+module _ (q : ℕ) (ss : List (List ℕ)) (ranked read : List ℕ) (bound : ℕ) (plus minus : SeedChoice) (buffer ks rs os : List ℕ) (ch : Chosen q ss read ks rs os plus minus bound buffer) where
   -- ---- counts of the sides
 
   examined-on : (strand : ℕ) (choice : SeedChoice) (count : ℕ) (r : Candidate) (left : List Place) → Rarest ks q (oriented strand read) (choice .offset) (choice .start) (choice .end) (choice .lookups) → SideOf q ss ranked read bound plus minus buffer strand choice count r left → r .cursor .next - choice .start ≡ length (stopped (lies ss (length read) (chosen q ss read strand)) (seedHits q ss read strand (chosen q ss read strand)) count)
@@ -67,12 +67,12 @@ module _ (q : ℕ) (ss : List (List ℕ)) (ranked read : List ℕ) (bound : ℕ)
 
   -- ---- the end of a search
 
-  module _ (sides : Sides) (tally : Tally) (b : List ℕ) (w : MappingWork) (done plus-left minus-left : List Place) (i : IndexWork plus minus sides tally w) where
-    ended : SideOf q ss ranked read bound plus minus buffer 0 plus (length (filter (onStrand 0) done)) (sides .plus) plus-left → SideOf q ss ranked read bound plus minus buffer 1 minus (length (filter (onStrand 1) done)) (sides .minus) minus-left → done ≡ passed q ss read bound → Searched ss ranked read bound (comparable q ss read) 0 0 buffer (tally .comparisons) (tally .seen) b → Found ss ranked read bound (work q ss read bound) (workOf w) buffer b
+  module _ (sides : Sides) (tally : Tally) (b : List ℕ) (w : MappingWork) (done plus-left minus-left : List Place) (i : w ≡ indexWork plus minus sides tally) where
+    ended : SideOf q ss ranked read bound plus minus buffer 0 plus (length (filter (onStrand 0) done)) (sides .plus) plus-left → SideOf q ss ranked read bound plus minus buffer 1 minus (length (filter (onStrand 1) done)) (sides .minus) minus-left → done ≡ passed q ss read bound → Searched ss ranked read bound (comparable q ss read) 0 0 buffer (tally .comparisons) (tally .seen) b → Found (byIndex q) ss ranked read bound w buffer b
     unfolding work
     ended p n e t =
         record {
-          work-is = work-eq (workOf w) (work q ss read bound) (i .lookups-are ∙ lookups) (i .hits-are ∙ hits) (i .examined-are ∙ examined) (i .comparisons-are ∙ comparisons) (i .seen-are ∙ seen);
+          work-is = i ∙ work-eq {t = tally} {t′ = tallied (matches ss read) (compared q ss read bound)} lookups hits examined comparisons seen;
           content = searched-content ss ranked read bound (comparable q ss read) (tally .comparisons) (tally .seen) buffer b (comparable-groups q ss read (ch .some)) t;
         }
       where
@@ -97,12 +97,12 @@ module _ (q : ℕ) (ss : List (List ℕ)) (ranked read : List ℕ) (bound : ℕ)
         seen : tally .seen ≡ work q ss read bound .seen
         seen = omega (arith, rw z at (t .seen-are))
 
-  module _ (room : 4 * bound ≤ length buffer) (few : length (indexOf q ss) ≤ 68719476736) (sides : Sides) (c s : ℕ) (b : List ℕ) (at : Both q ss ranked read bound plus minus buffer sides c s b) where
+  module _ (sides : Sides) (c s : ℕ) (b : List ℕ) (at : Both q ss ranked read bound plus minus buffer sides c s b) where
     done-seen : s ≡ length (filter (matches ss read) (at .done))
     done-seen = omega (arith, searched-seen ss ranked read bound (at .done) 0 0 buffer c s b (omega arith) (at .progress .searched) (at .progress .within))
 
     -- no candidate waits
-    module _ (w : MappingWork) (i : IndexWork plus minus sides (record { comparisons = c; seen = s }) w) (over : (sides .plus .found || sides .minus .found) ≡ false) where
+    module _ (w : MappingWork) (i : w ≡ indexWork plus minus sides (record { comparisons = c; seen = s })) (over : (sides .plus .found || sides .minus .found) ≡ false) where
       plus-over : sides .plus .found ≡ false
       plus-over = by-test (sides .plus .found) (λ f. clash refl (rw f at over)) (λ f. f)
 
@@ -110,9 +110,9 @@ module _ (q : ℕ) (ss : List (List ℕ)) (ranked read : List ℕ) (bound : ℕ)
       minus-over = rw plus-over at over
 
       all-done : at .done ≡ comparable q ss read
-      all-done = sym (append-nil (at .done)) ∙ ap₂ (λ xs ys. at .done ++ merge before xs ys) (sym (plus-none q ss ranked read bound plus minus buffer ks rs os ch room few sides c s b at plus-over)) (sym (minus-none q ss ranked read bound plus minus buffer ks rs os ch room few sides c s b at minus-over)) ∙ at .whole
+      all-done = sym (append-nil (at .done)) ∙ ap₂ (λ xs ys. at .done ++ merge before xs ys) (sym (plus-none q ss ranked read bound plus minus buffer ks rs os ch sides c s b at plus-over)) (sym (minus-none q ss ranked read bound plus minus buffer ks rs os ch sides c s b at minus-over)) ∙ at .whole
 
-      pub found-all : Found ss ranked read bound (work q ss read bound) (workOf w) buffer b
+      pub found-all : Found (byIndex q) ss ranked read bound w buffer b
       found-all = ended sides (record { comparisons = c; seen = s }) b w (at .done) (at .plus-left) (at .minus-left) i (at .plus-side) (at .minus-side) kept (rw (← all-done) (at .progress .searched))
         where
           looked-all : compared q ss read bound ≡ at .done
@@ -126,7 +126,7 @@ module _ (q : ℕ) (ss : List (List ℕ)) (ranked read : List ℕ) (bound : ℕ)
     -- the bound stops the search
     module _ (first : Bool) (is-first : first ≡ plusFirst sides) (waits : (sides .plus .found || sides .minus .found) ≡ true) (next : Candidate) (is-next : next ≡ cond first (sides .plus) (sides .minus)) (c′ s′ : ℕ) (b′ : List ℕ) (t : Searched ss ranked read bound (place (next .rank) (next .start) (next .cursor .strand) ∷ []) c s b c′ s′ b′) (h : bound < s′) where
       abbrev rest : List Place
-      rest = behind q ss ranked read bound plus minus buffer ks rs os ch room few sides c s b at first is-first waits next is-next
+      rest = behind q ss ranked read bound plus minus buffer ks rs os ch sides c s b at first is-first waits next is-next
 
       matched : (v : Bool) → matches ss read (place (next .rank) (next .start) (next .cursor .strand)) ≡ v → matches ss read (place (next .rank) (next .start) (next .cursor .strand)) ≡ true
       matched true e = e
@@ -141,15 +141,15 @@ module _ (q : ℕ) (ss : List (List ℕ)) (ranked read : List ℕ) (bound : ℕ)
       last : compared q ss read bound ≡ at .done ++ (place (next .rank) (next .start) (next .cursor .strand) ∷ [])
       last =
           let z : bound - length (filter (matches ss read) (at .done)) ≡ 0 = omega (arith, at-bound, done-seen) in
-          ap (λ l. stopped (matches ss read) l bound) (sym (next-whole q ss ranked read bound plus minus buffer ks rs os ch room few sides c s b at first is-first waits next is-next))
+          ap (λ l. stopped (matches ss read) l bound) (sym (next-whole q ss ranked read bound plus minus buffer ks rs os ch sides c s b at first is-first waits next is-next))
           ∙ stopped-append (matches ss read) (at .done) (place (next .rank) (next .start) (next .cursor .strand) ∷ rest) bound (omega (arith, at-bound, done-seen))
           ∙ ap (λ k. at .done ++ stopped (matches ss read) (place (next .rank) (next .start) (next .cursor .strand) ∷ rest) k) z
           ∙ ap (λ v. at .done ++ (place (next .rank) (next .start) (next .cursor .strand) ∷ goOn v 0 (λ k. stopped (matches ss read) rest k))) here
 
-      pub found-stopped : (w : MappingWork) → IndexWork plus minus sides (record { comparisons = c′; seen = s′ }) w → Found ss ranked read bound (work q ss read bound) (workOf w) buffer b′
+      pub found-stopped : (w : MappingWork) → w ≡ indexWork plus minus sides (record { comparisons = c′; seen = s′ }) → Found (byIndex q) ss ranked read bound w buffer b′
       found-stopped w i =
           ended sides (record { comparisons = c′; seen = s′ }) b′ w (at .done) (at .plus-left) (at .minus-left) i (at .plus-side) (at .minus-side) kept
-          (both-stop q ss ranked read bound plus minus buffer ks rs os ch room few sides c s b at first is-first waits next is-next c′ s′ b′ t h)
+          (both-stop q ss ranked read bound plus minus buffer ks rs os ch sides c s b at first is-first waits next is-next c′ s′ b′ t h)
         where
           past : ltb bound (length (filter (matches ss read) (at .done ++ (place (next .rank) (next .start) (next .cursor .strand) ∷ [])))) ≡ true
           past = rw (filter-append, here) (lt-ltb bound (length (filter (matches ss read) (at .done) ++ (place (next .rank) (next .start) (next .cursor .strand) ∷ []))) (omega (arith, at-bound, done-seen, length-append (filter (matches ss read) (at .done)) (place (next .rank) (next .start) (next .cursor .strand) ∷ []))))

@@ -17,7 +17,7 @@ use Rattle.lists.proofs.Filter.{filter-append}
 use Rattle.lists.proofs.Sort.{merge-left, merge-right}
 use Rattle.lists.proofs.Member.{∈-append-right}
 use Rattle.bases.specs.Read.{oriented}
-use Rattle.index.specs.Index.{indexOf, Indexed}
+use Rattle.index.specs.Index.{indexOf, Indexed, maxStarts}
 use Rattle.places.specs.Place.{Place, place, Fits, before, places}
 use Rattle.places.proofs.Placing.{before-order, before-total, places-∈}
 use Rattle.candidates.specs.Search.{chosen, candidatesAt, candidates, comparable, Rarest}
@@ -27,26 +27,22 @@ use Rattle.candidates.specs.declared.cursor.OrientationCursor.{OrientationCurso
 use Rattle.candidates.specs.declared.cursor.Candidate.{Candidate}
 use Rattle.candidates.specs.declared.sides.Sides.{Sides}
 use Rattle.candidates.proofs.Candidates.{candidates-ascending, comparable-∈}
-use Rattle.scan.specs.Searched.{Going, Searched}
+use Rattle.scan.specs.Searched.{maxCount, Going, Searched}
 use Rattle.scan.proofs.Going.{Progress, searched-bounded, progress-none, progress-length, progress-going, progress-more, progress-stop}
 use Rattle.search.specs.Work.{onStrand}
+use Rattle.search.specs.Steps.{Front}
 use Rattle.search.proofs.Seeking.{chosen-offset, chosen-hits, in-index, comparable-few}
 use Rattle.search.proofs.Siding.{candidatesIn, Side, side-start, side-moved, side-first, side-none}
 
--- the chosen seeds of a read that is not shorter than a seed
-pub record Chosen (q : ℕ) (ss : List (List ℕ)) (read ks rs os : List ℕ) (plus minus : SeedChoice) : Type 0 where
+-- the chosen seeds of a read that is not shorter than a seed, and room for the entries of its matches
+pub record Chosen (q : ℕ) (ss : List (List ℕ)) (read ks rs os : List ℕ) (plus minus : SeedChoice) (bound : ℕ) (buffer : List ℕ) : Type 0 where
   pub some : 1 ≤ q
   pub long : q ≤ length read
   pub indexed : Indexed q ss ks rs os
   pub plus-chosen : Rarest ks q (oriented 0 read) (plus .offset) (plus .start) (plus .end) (plus .lookups)
   pub minus-chosen : Rarest ks q (oriented 1 read) (minus .offset) (minus .start) (minus .end) (minus .lookups)
-
--- a cursor at the front of the postings of a chosen seed
-pub record Front (strand : ℕ) (choice : SeedChoice) (c : OrientationCursor) : Type 0 where
-  pub strand-is : c .strand ≡ strand
-  pub offset-is : c .offset ≡ choice .offset
-  pub next-is : c .next ≡ choice .start
-  pub end-is : c .end ≡ choice .end
+  pub room : 4 * bound ≤ length buffer
+  pub few : length (indexOf q ss) ≤ maxStarts
 
 module _ (q : ℕ) (ss : List (List ℕ)) (ranked read : List ℕ) (bound : ℕ) (plus minus : SeedChoice) (buffer : List ℕ) where
   -- a side that goes along the postings of a chosen seed
@@ -65,9 +61,9 @@ module _ (q : ℕ) (ss : List (List ℕ)) (ranked read : List ℕ) (bound : ℕ)
     pub whole : done ++ merge before plus-left minus-left ≡ comparable q ss read
     pub progress : Progress ss ranked read bound 0 0 buffer done c s b
 
-  module _ (ks rs os : List ℕ) (ch : Chosen q ss read ks rs os plus minus) (room : 4 * bound ≤ length buffer) (few : length (indexOf q ss) ≤ 68719476736) where
-    going : Going bound 1152921504606846976 0 0 buffer
-    going = record { within = omega arith; room = room; countable = omega arith }
+  module _ (ks rs os : List ℕ) (ch : Chosen q ss read ks rs os plus minus bound buffer) where
+    going : Going bound maxCount 0 0 buffer
+    going = record { within = omega arith; room = ch .room; countable = omega arith }
 
     plus-inside : plus .end ≤ length (indexOf q ss)
     plus-inside = omega (arith, ch .plus-chosen .range-is .inside, in-index q ss ks rs os (ch .indexed))
@@ -95,14 +91,14 @@ module _ (q : ℕ) (ss : List (List ℕ)) (ranked read : List ℕ) (bound : ℕ)
           plus-ascends = rw (side-candidates 0 plus (ch .plus-chosen)) (candidates-ascending q ss read 0 (plus .offset));
           minus-ascends = rw (side-candidates 1 minus (ch .minus-chosen)) (candidates-ascending q ss read 1 (minus .offset));
           whole = rw (le-ltb (length read) q (ch .long)) (ap₂ (merge before) (chosen-candidates 0 plus (ch .plus-chosen)) (chosen-candidates 1 minus (ch .minus-chosen)));
-          progress = progress-none ss ranked read bound 0 0 buffer 1152921504606846976 going;
+          progress = progress-none ss ranked read bound 0 0 buffer maxCount going;
         }
 
     -- ---- the next place
 
     module _ (sides : Sides) (c s : ℕ) (b : List ℕ) (at : Both sides c s b) where
       pub both-length : length b ≡ length buffer
-      both-length = progress-length ss ranked read bound 0 0 buffer 1152921504606846976 going (at .done) c s b (at .progress)
+      both-length = progress-length ss ranked read bound 0 0 buffer maxCount going (at .done) c s b (at .progress)
 
       abbrev plus-place : Place
       plus-place = place (sides .plus .rank) (sides .plus .start) 0
@@ -190,18 +186,18 @@ module _ (q : ℕ) (ss : List (List ℕ)) (ranked read : List ℕ) (bound : ℕ)
         both-fits = places-∈ (length read) ss next-place (comparable-∈ q ss read (ch .some) next-place (rw (← next-whole) (∈-append-right next-place (at .done) (next-place ∷ behind) (inl refl))))
 
         pub both-going : Going bound 1 c s b
-        both-going = progress-going ss ranked read bound 0 0 buffer 1152921504606846976 going (at .done) c s b (at .progress) 1 (omega (arith, comparable-few q ss read (ch .long), ap length next-whole, length-append (at .done) (next-place ∷ behind)))
+        both-going = progress-going ss ranked read bound 0 0 buffer maxCount going (at .done) c s b (at .progress) 1 (omega (arith, ch .few, comparable-few q ss read (ch .long), ap length next-whole, length-append (at .done) (next-place ∷ behind)))
 
         -- the places compared grow in number, up to a bound of their own
-        pub both-fewer : c < 137438953472
-        both-fewer = omega (arith, few, comparable-few q ss read (ch .long), ap length next-whole, length-append (at .done) (next-place ∷ behind), searched-bounded ss ranked read bound (at .done) 0 0 buffer c s b (omega arith) (at .progress .searched))
+        pub both-fewer : c < 2 * maxStarts
+        both-fewer = omega (arith, ch .few, comparable-few q ss read (ch .long), ap length next-whole, length-append (at .done) (next-place ∷ behind), searched-bounded ss ranked read bound (at .done) 0 0 buffer c s b (omega arith) (at .progress .searched))
 
         module _ (c′ s′ : ℕ) (b′ : List ℕ) (t : Searched ss ranked read bound (place (next .rank) (next .start) (next .cursor .strand) ∷ []) c s b c′ s′ b′) where
           pub both-counted : c < c′
           both-counted = omega (arith, t .comparisons-are)
 
           pub both-stop : bound < s′ → Searched ss ranked read bound (comparable q ss read) 0 0 buffer c′ s′ b′
-          both-stop h = rw (← next-whole, ← append-assoc (at .done) (next-place ∷ []) behind) (progress-stop ss ranked read bound 0 0 buffer 1152921504606846976 going (at .done) c s b (at .progress) (next-place ∷ []) c′ s′ b′ t h behind)
+          both-stop h = rw (← next-whole, ← append-assoc (at .done) (next-place ∷ []) behind) (progress-stop ss ranked read bound 0 0 buffer maxCount going (at .done) c s b (at .progress) (next-place ∷ []) c′ s′ b′ t h behind)
 
           -- one more on its strand, and none on the other
           more-on : (strand : ℕ) (p : Place) → p .strand ≡ strand → length (filter (onStrand strand) (at .done)) + 1 ≡ length (filter (onStrand strand) (at .done ++ (p ∷ [])))
@@ -222,7 +218,7 @@ module _ (q : ℕ) (ss : List (List ℕ)) (ranked read : List ℕ) (bound : ℕ)
                   plus-ascends = (rw (plus-splits (plus-waits (sym is-first ∙ f))) at (at .plus-ascends)) .1;
                   minus-ascends = at .minus-ascends;
                   whole = append-assoc (at .done) (plus-place ∷ []) (merge before plus-behind (at .minus-left)) ∙ ap (λ l. at .done ++ l) (sym (plus-merged (sym is-first ∙ f))) ∙ at .whole;
-                  progress = progress-more ss ranked read bound 0 0 buffer 1152921504606846976 going (at .done) c s b (at .progress) (plus-place ∷ []) c′ s′ b′ (rw (← next-plus f) t) h;
+                  progress = progress-more ss ranked read bound 0 0 buffer maxCount going (at .done) c s b (at .progress) (plus-place ∷ []) c′ s′ b′ (rw (← next-plus f) t) h;
                 }
 
             minus-more : first ≡ false → Both sides′ c′ s′ b′
@@ -236,7 +232,7 @@ module _ (q : ℕ) (ss : List (List ℕ)) (ranked read : List ℕ) (bound : ℕ)
                   plus-ascends = at .plus-ascends;
                   minus-ascends = (rw (minus-splits (minus-waits (sym is-first ∙ f) waits)) at (at .minus-ascends)) .1;
                   whole = append-assoc (at .done) (minus-place ∷ []) (merge before (at .plus-left) minus-behind) ∙ ap (λ l. at .done ++ l) (sym (minus-merged (sym is-first ∙ f) waits)) ∙ at .whole;
-                  progress = progress-more ss ranked read bound 0 0 buffer 1152921504606846976 going (at .done) c s b (at .progress) (minus-place ∷ []) c′ s′ b′ (rw (← next-minus f) t) h;
+                  progress = progress-more ss ranked read bound 0 0 buffer maxCount going (at .done) c s b (at .progress) (minus-place ∷ []) c′ s′ b′ (rw (← next-minus f) t) h;
                 }
 
             pub both-more : Both sides′ c′ s′ b′

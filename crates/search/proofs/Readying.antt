@@ -2,7 +2,7 @@
 -- Assumes nothing.
 use mathlib.Core.Path.{_≡_, refl, ap}
 use mathlib.Core.List.{List}
-use Prim.Native.Nat.{ℕ, zero, suc, _≤_}
+use Prim.Native.Nat.{ℕ, zero, suc, _*_, _≤_}
 use native.Mathlib.Omega.{arith}
 use lib.ListN.{length}
 use lib.Dec.{eqb}
@@ -13,7 +13,7 @@ use Rattle.names.specs.Ordered.{numbers}
 use Rattle.seeds.specs.Key.{SeedIn}
 use Rattle.seeds.specs.Seeds.{starts}
 use Rattle.lookup.specs.Range.{Rising}
-use Rattle.index.specs.Index.{indexOf, rankedSequences}
+use Rattle.index.specs.Index.{indexOf, rankedSequences, maxStarts}
 use Rattle.index.proofs.Hits.{index-rising}
 use Rattle.index.proofs.Sequencing.{ranked-many}
 use Rattle.candidates.specs.Search.{offsetCount, Rarest}
@@ -38,15 +38,15 @@ module _ (q : ℕ) (bases ends ranked ks rs os read : List ℕ) (ready : IndexSe
   pub ready-seed : SeedIn (length read) q 0
   ready-seed = record { some = ready .seed .some; most = ready .seed .most; inside = omega arith }
 
-  pub ready-few : length (indexOf q (rankedSequences bases ends ranked)) ≤ 68719476736
+  ready-few : length (indexOf q (rankedSequences bases ends ranked)) ≤ maxStarts
   ready-few = index-few q bases ends ranked (ready .seed .some) (ready .searchable .lent)
 
   pub ready-cursor : (next end : ℕ) → next ≤ end → end ≤ length ks → CursorIn rs os (length ranked) next end
   ready-cursor next end h k = rw (← ranked-many bases ends ranked) (cursor-in q (rankedSequences bases ends ranked) ks rs os (ready .indexed) next end h k)
 
   module _ (plus minus : SeedChoice) (p : Rarest ks q (oriented 0 read) (plus .offset) (plus .start) (plus .end) (plus .lookups)) (m : Rarest ks q (oriented 1 read) (minus .offset) (minus .start) (minus .end) (minus .lookups)) where
-    pub ready-chosen : Chosen q (rankedSequences bases ends ranked) read ks rs os plus minus
-    ready-chosen = record { some = ready .seed .some; long = long; indexed = ready .indexed; plus-chosen = p; minus-chosen = m }
+    pub ready-chosen : (bound : ℕ) (buffer : List ℕ) → 4 * bound ≤ length buffer → Chosen q (rankedSequences bases ends ranked) read ks rs os plus minus bound buffer
+    ready-chosen bound buffer room = record { some = ready .seed .some; long = long; indexed = ready .indexed; plus-chosen = p; minus-chosen = m; room = room; few = ready-few }
 
     lookups-few : (strand : ℕ) (choice : SeedChoice) → Rarest ks q (oriented strand read) (choice .offset) (choice .start) (choice .end) (choice .lookups) → choice .lookups ≤ 65536
     lookups-few strand choice r =

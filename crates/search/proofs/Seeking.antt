@@ -23,7 +23,7 @@ use Rattle.seeds.specs.Key.{keyOf}
 use Rattle.seeds.specs.Seeds.{starts, seeds, keysOf}
 use Rattle.catalogue.specs.Catalogue.{maxBases}
 use Rattle.seeds.proofs.Storing.{length-seeds}
-use Rattle.index.specs.Index.{allSeeds, indexOf, hits, rankedSequences, Lent, Indexed}
+use Rattle.index.specs.Index.{allSeeds, indexOf, hits, rankedSequences, maxStarts, Lent, Indexed}
 use Rattle.index.proofs.Indexing.{index-∈-seed, length-index}
 use Rattle.index.proofs.Sequencing.{ranked-many, ranked-length}
 use Rattle.index.proofs.Hits.{range-hits}
@@ -42,7 +42,7 @@ all-few : (q r : ℕ) (ss : List (List ℕ)) → 1 ≤ q → ((i : ℕ) → i < 
 all-few q r [] some h = omega arith
 all-few q r (s ∷ ss) some h = omega (arith, length-append (seeds q r s) (allSeeds q (suc r) ss), length-seeds q r s 0 (starts q s), h 0 (omega arith), all-few q (suc r) ss some (λ i l. h (suc i) (omega arith)))
 
-pub index-few : (q : ℕ) (bases ends ranked : List ℕ) → 1 ≤ q → Lent bases ends ranked → length (indexOf q (rankedSequences bases ends ranked)) ≤ 68719476736
+pub index-few : (q : ℕ) (bases ends ranked : List ℕ) → 1 ≤ q → Lent bases ends ranked → length (indexOf q (rankedSequences bases ends ranked)) ≤ maxStarts
 index-few q bases ends ranked some l =
     omega (arith, length-index q (rankedSequences bases ends ranked), l .few, ranked-many bases ends ranked, all-few q 0 (rankedSequences bases ends ranked) some (λ i h. ranked-length bases ends ranked l i (omega (arith, ranked-many bases ends ranked))))
 

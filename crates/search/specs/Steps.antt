@@ -5,46 +5,50 @@ use mathlib.Core.List.{List}
 use Prim.Native.Nat.{ℕ, _+_, _-_, _≤_}
 use lib.ListN.{length, take}
 use lib.Dec.{ltb}
-use Rattle.lists.specs.Filter.{every}
-use Rattle.bases.specs.Base.{isCapital}
+use Rattle.promises.specs.Refusal.{Outcome, refused, accepted}
 use Rattle.seeds.specs.Seeds.{placed}
 use Rattle.index.specs.Index.{rankedSequences, Lent, Indexed, SeedLength}
 use Rattle.places.specs.Place.{groups}
 use Rattle.candidates.specs.declared.rarest.SeedChoice.{SeedChoice}
+use Rattle.candidates.specs.declared.cursor.OrientationCursor.{OrientationCursor}
 use Rattle.candidates.specs.declared.cursor.Candidate.{Candidate}
 use Rattle.candidates.specs.declared.sides.Sides.{Sides}
 use Rattle.scan.specs.declared.visit.Tally.{Tally}
 use Rattle.scan.specs.Entries.{entriesOf, entryCount, cleared}
-use Rattle.scan.specs.Searched.{Searchable}
-use Rattle.search.specs.Work.{Work}
+use Rattle.scan.specs.Searched.{maxCount, Searchable}
+use Rattle.search.specs.Work.{Way, workBy, workOf}
 use Rattle.search.specs.declared.answer.MappingWork.{MappingWork}
 use Rattle.search.specs.declared.answer.MapAnswer.{MapAnswer}
-use Rattle.search.specs.Answer.{workOf, answerOf, refusedBy, mappedAs, stateOf}
+use Rattle.search.specs.Answer.{answerOf, row, stateOf}
 
--- the entries of the groups up to a bound were written, with the work of a search
-pub record Found (ss : List (List ℕ)) (ranked read : List ℕ) (bound : ℕ) (w w′ : Work) (buffer buffer′ : List ℕ) : Type 0 where
-  pub work-is : w′ ≡ w
+-- the entries of the groups up to a bound were written, with the work of a search in either way
+pub record Found (way : Way) (ss : List (List ℕ)) (ranked read : List ℕ) (bound : ℕ) (w : MappingWork) (buffer buffer′ : List ℕ) : Type 0 where
+  pub work-is : w ≡ workBy way ss read bound
   pub content : buffer′ ≡ placed 0 (entriesOf ranked (length read) (take bound (groups ss read))) buffer
 
 -- the work of two chosen seeds, of two cursors and of the comparisons
-pub record IndexWork (plus minus : SeedChoice) (sides : Sides) (tally : Tally) (w : MappingWork) : Type 0 where
-  pub lookups-are : w .lookups ≡ plus .lookups + minus .lookups
-  pub hits-are : w .hits ≡ (plus .end - plus .start) + (minus .end - minus .start)
-  pub examined-are : w .examined ≡ (sides .plus .cursor .next - plus .start) + (sides .minus .cursor .next - minus .start)
-  pub comparisons-are : w .comparisons ≡ tally .comparisons
-  pub seen-are : w .seen ≡ tally .seen
+abbrev pub indexWork : SeedChoice → SeedChoice → Sides → Tally → MappingWork
+indexWork plus minus sides tally =
+    workOf (plus .lookups + minus .lookups) ((plus .end - plus .start) + (minus .end - minus .start)) ((sides .plus .cursor .next - plus .start) + (sides .minus .cursor .next - minus .start)) tally
+
+-- a cursor at the front of the postings of a chosen seed
+pub record Front (strand : ℕ) (choice : SeedChoice) (c : OrientationCursor) : Type 0 where
+  pub strand-is : c .strand ≡ strand
+  pub offset-is : c .offset ≡ choice .offset
+  pub next-is : c .next ≡ choice .start
+  pub end-is : c .end ≡ choice .end
 
 -- a cursor within the postings of its seed, and counts that can be added
 pub record Spans (choice : SeedChoice) (side : Candidate) : Type 0 where
   pub from : choice .start ≤ side .cursor .next
   pub upto : side .cursor .next ≤ choice .end
-  pub most : choice .end ≤ 1152921504606846976
+  pub most : choice .end ≤ maxCount
   pub lookups : choice .lookups ≤ 65536
 
 -- the answer by the matches seen under a bound, and the entries set to zero where there are more
 pub record Concluded (limit bound : ℕ) (w : MappingWork) (r : MapAnswer) (buffer buffer′ : List ℕ) : Type 0 where
   pub answer :
-      answerOf r ≡ cond (ltb bound (w .seen)) (cond (ltb (entryCount buffer) limit) (refusedBy 10) (mappedAs 2 0 (workOf w))) (mappedAs (stateOf (w .seen)) (w .seen) (workOf w))
+      answerOf r ≡ cond (ltb bound (w .seen)) (cond (ltb (entryCount buffer) limit) (refused 10) (accepted (row 2 0 w))) (accepted (row (stateOf (w .seen)) (w .seen) w))
   pub entries : buffer′ ≡ cond (ltb bound (w .seen)) (cleared buffer) buffer
 
 -- what mapping reads is lent: sequences, and columns that are their index

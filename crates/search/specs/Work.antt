@@ -7,18 +7,17 @@ use lib.Dec.{eqb, ltb}
 use Rattle.lists.specs.Filter.{filter}
 use Rattle.lists.specs.Limit.{stopped}
 use Rattle.places.specs.Place.{Place, places, matches}
-use Rattle.candidates.specs.Search.{lies, seedHits, seedCount, lookupsOn, chosen, compared}
+use Rattle.candidates.specs.Search.{lies, seedHits, seedCount, lookupsOn, chosen, everyStart, compared}
+use Rattle.scan.specs.declared.visit.Tally.{Tally}
+use Rattle.search.specs.declared.answer.MappingWork.{MappingWork}
 
--- lookups, postings of the chosen seeds, postings examined, full comparisons, and matches seen, the one past the limit included
-pub record Work : Type 0 where
-  pub lookups : ℕ
-  pub hits : ℕ
-  pub examined : ℕ
-  pub comparisons : ℕ
-  pub seen : ℕ
+-- what comparing a list of places counts: the full comparisons, and the matches seen
+abbrev pub tallied : (Place → Bool) → List Place → Tally
+tallied test xs = record { comparisons = length xs; seen = length (filter test xs) }
 
-abbrev pub noWork : Work
-noWork = record { lookups = 0; hits = 0; examined = 0; comparisons = 0; seen = 0 }
+-- lookups, postings of the chosen seeds, postings examined, and what comparing counts
+abbrev pub workOf : ℕ → ℕ → ℕ → Tally → MappingWork
+workOf lookups hits examined t = record { lookups = lookups; hits = hits; examined = examined; comparisons = t .comparisons; seen = t .seen }
 
 -- ---- the search by index
 
@@ -36,28 +35,30 @@ module _ (q : ℕ) (ss : List (List ℕ)) (read : List ℕ) where
   examinedOn limit strand =
       length (stopped (lies ss (length read) (chosen q ss read strand)) (seedHits q ss read strand (chosen q ss read strand)) (length (filter (onStrand strand) (passed limit))))
 
-  -- a read shorter than a seed is not looked up
-  abbrev pub unlessShort : ℕ → ℕ
-  unlessShort n = cond (ltb (length read) q) 0 n
+  -- a read that is compared at every start is not looked up
+  abbrev pub ifLookedUp : ℕ → ℕ
+  ifLookedUp n = cond (everyStart q read) 0 n
 
-  unfoldable pub work : ℕ → Work
+  unfoldable pub work : ℕ → MappingWork
   work limit =
-      record {
-        lookups = unlessShort (lookupsOn q ss read 0 + lookupsOn q ss read 1);
-        hits = unlessShort (seedCount q ss read 0 (chosen q ss read 0) + seedCount q ss read 1 (chosen q ss read 1));
-        examined = unlessShort (examinedOn limit 0 + examinedOn limit 1);
-        comparisons = length (compared q ss read limit);
-        seen = length (filter (matches ss read) (compared q ss read limit));
-      }
+      workOf
+      (ifLookedUp (lookupsOn q ss read 0 + lookupsOn q ss read 1))
+      (ifLookedUp (seedCount q ss read 0 (chosen q ss read 0) + seedCount q ss read 1 (chosen q ss read 1)))
+      (ifLookedUp (examinedOn limit 0 + examinedOn limit 1))
+      (tallied (matches ss read) (compared q ss read limit))
 
 -- ---- the search at every start
 
-unfoldable pub scanWork : List (List ℕ) → List ℕ → ℕ → Work
-scanWork ss read limit =
-    record {
-      lookups = 0;
-      hits = 0;
-      examined = 0;
-      comparisons = length (stopped (matches ss read) (places (length read) ss) limit);
-      seen = length (filter (matches ss read) (stopped (matches ss read) (places (length read) ss) limit));
-    }
+unfoldable pub scanWork : List (List ℕ) → List ℕ → ℕ → MappingWork
+scanWork ss read limit = workOf 0 0 0 (tallied (matches ss read) (stopped (matches ss read) (places (length read) ss) limit))
+
+-- ---- both ways
+
+-- how a read is searched: by the index of seeds of q bases, or at every start
+pub data Way : Type 0 where
+  byIndex : ℕ → Way
+  plain : Way
+
+abbrev pub workBy : Way → List (List ℕ) → List ℕ → ℕ → MappingWork
+workBy (byIndex q) ss read limit = work q ss read limit
+workBy plain ss read limit = scanWork ss read limit

@@ -1,6 +1,8 @@
 // What a search answers.
 ghost use mathlib.Core.Path.{_≡_};
+ghost use Rattle.search.specs.Work.{workOf};
 ghost use Rattle.search.specs.Answer.{stateNumber, stateOf};
+use scan::visit::Tally;
 
 pub enum ReadState {
     NotRequested,
@@ -25,6 +27,19 @@ pub struct Mapping {
     pub state: ReadState,
     pub groups: usize,
     pub work: MappingWork,
+}
+
+// The work of a search: what was looked up, and what comparing counted.
+pub fn work_of(lookups: u64, hits: u64, examined: u64, tally: Tally) -> MappingWork
+    ensures { λ r. ⌜ r ≡ workOf lookups hits examined tally ⌝ }
+{
+    MappingWork {
+        lookups,
+        hits,
+        examined,
+        comparisons: tally.comparisons,
+        seen: tally.seen as u64,
+    }
 }
 
 pub enum MapAnswer {

@@ -1,4 +1,4 @@
--- `indexed_mapper::answer::state_of` meets its contract: no group, one, or more.
+-- `search::answer::state_of` meets its contract: no group, one, or more.
 -- Assumes nothing.
 use Rattle.search.proofs.Concluding.{state-many}
 use borrow.Author.Needs.{needs}

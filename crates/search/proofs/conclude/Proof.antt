@@ -1,10 +1,10 @@
--- `indexed_mapper::search::conclude` meets its contract, by whether more matches than the bound were seen.
+-- `search::conclude` meets its contract, by whether more matches than the bound were seen.
 -- Assumes nothing.
 use native.Mathlib.Omega.{arith}
 use Rattle.search.proofs.Concluding.{conclude-few, conclude-short, conclude-past}
 use borrow.Author.Needs.{needs}
-use Rattle.search.proofs.search.conclude.Statement.{statement}
-use Rattle.search.proofs.search.conclude.Tie as tie
+use Rattle.search.proofs.conclude.Statement.{statement}
+use Rattle.search.proofs.conclude.Tie as tie
 
 state-of-requires : tie.Need-state-of-requires
 state-of-requires c κs = search needs

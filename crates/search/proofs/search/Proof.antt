@@ -1,12 +1,12 @@
--- `indexed_mapper::search::search` meets its contract: a short read at every start, else by the index under the lesser of limit and entries.
+-- `search::search` meets its contract: a short read at every start, else by the index under the lesser of limit and entries.
 -- Assumes nothing.
 use native.Mathlib.Omega.{arith}
 use Rattle.index.specs.Index.{rankedSequences}
-use Rattle.search.specs.Work.{work}
+use Rattle.search.specs.Work.{byIndex}
 use Rattle.search.proofs.Concluding.{search-answered, work-bounded, work-short}
 use borrow.Author.Needs.{needs}
-use Rattle.search.proofs.search.search.Statement.{statement}
-use Rattle.search.proofs.search.search.Tie as tie
+use Rattle.search.proofs.search.Statement.{statement}
+use Rattle.search.proofs.search.Tie as tie
 
 search-every-start-requires : tie.Need-search-every-start-requires
 search-every-start-requires c κs = search needs
@@ -39,7 +39,7 @@ returns-2 : tie.Need-returns-2
 returns-2 c =
     let a = c .before .before .before .before .before .before .before .before .before .before .before .before .before .before .before .before .before .before .before .before .before .before .args in
     let ss = rankedSequences (a .bases .now) (a .ends .now) (a .ranked .now) in
-    search-answered ss (a .ranked .now) (a .read .now) (a .limit) _ (λ n. work (a .q) ss (a .read .now) n) (work-bounded ss (a .read .now) (a .q) (c .before .before .before .before .before .before .before .before .before .before .before .before .before .before .before .before .before .before .before .before .before .before .pre .seed .some)) (a .entries .now) _ _ _ _ _ (c .before .before .before .before .before .before .before .before .before .before .before .clear-entries .ensures) (c .before .before .before .before .before .before .before .before .bound-of .ensures) (c .before .before .before .before .before .before .search-index .ensures) (c .before .before .conclude .ensures)
+    search-answered ss (a .ranked .now) (a .read .now) (a .limit) _ (byIndex (a .q)) (work-bounded ss (a .read .now) (a .q) (c .before .before .before .before .before .before .before .before .before .before .before .before .before .before .before .before .before .before .before .before .before .before .pre .seed .some)) (a .entries .now) _ _ _ _ _ (c .before .before .before .before .before .before .before .before .before .before .before .clear-entries .ensures) (c .before .before .before .before .before .before .before .before .bound-of .ensures) (c .before .before .before .before .before .before .search-index .ensures) (c .before .before .conclude .ensures)
 
 pub search-spec : {M : Type 1} → statement M
 search-spec =

@@ -1,15 +1,15 @@
--- `indexed_mapper::search::search_index` meets its contract. The invariant: `Both`, two sides and what was compared.
+-- `search::by_index::search_index` meets its contract. The invariant: `Both`, two sides and what was compared.
 -- Assumes nothing.
 use borrow.Author.Needs.{needs}
 use mathlib.Core.Path.{sym, _∙_}
 use native.Mathlib.Omega.{arith}
-use Prim.Native.Nat.{_-_}
-use Rattle.index.specs.Index.{rankedSequences}
+use Prim.Native.Nat.{_-_, _*_}
+use Rattle.index.specs.Index.{rankedSequences, maxStarts}
 use Rattle.search.proofs.Merging.{Both, both-start, both-fits, both-going, both-more, both-fewer, both-counted, both-length}
 use Rattle.search.proofs.Finding.{found-all, found-stopped}
-use Rattle.search.proofs.Readying.{ready-rising, ready-seed, ready-few, ready-cursor, ready-chosen, ready-spans, ready-cursors}
-use Rattle.search.proofs.search.search_index.Statement.{statement}
-use Rattle.search.proofs.search.search_index.Tie as tie
+use Rattle.search.proofs.Readying.{ready-rising, ready-seed, ready-cursor, ready-chosen, ready-spans, ready-cursors}
+use Rattle.search.proofs.by_index.search_index.Statement.{statement}
+use Rattle.search.proofs.by_index.search_index.Tie as tie
 
 abbrev Inv-loop : tie.InvT-loop
 Inv-loop entries₀ bases ends ranked keys ranks positions q read bound plus minus sides₀ tally₀ entries sides tally =
@@ -17,23 +17,17 @@ Inv-loop entries₀ bases ends ranked keys ranks positions q read bound plus min
 
 abbrev μ-loop : tie.MeasureT-loop
 μ-loop entries₀ bases ends ranked keys ranks positions q read bound plus minus sides₀ tally₀ entries sides tally =
-    137438953472 - tally .comparisons
+    2 * maxStarts - tally .comparisons
 
 rarest-seed-requires : tie.Need-rarest-seed-requires Inv-loop μ-loop
 rarest-seed-requires c κs =
     let z = c .before .before .before .before .before .before .before .before in
-    let a = z .args in
-    let ready = z .pre .0 in
-    let long = z .pre .1 .0 in
-    (ready-seed _ _ _ _ _ _ _ _ ready long, (ready-rising _ _ _ _ _ _ _ _ ready long, ready .searchable .short))
+    (ready-seed _ _ _ _ _ _ _ _ (z .pre .0) (z .pre .1 .0), (ready-rising _ _ _ _ _ _ _ _ (z .pre .0) (z .pre .1 .0), z .pre .0 .searchable .short))
 
 rarest-seed-requires-2 : tie.Need-rarest-seed-requires-2 Inv-loop μ-loop
 rarest-seed-requires-2 c κs =
     let z = c .before .before .before .before .before .before .before .before .before in
-    let a = z .args in
-    let ready = z .pre .0 in
-    let long = z .pre .1 .0 in
-    (ready-seed _ _ _ _ _ _ _ _ ready long, (ready-rising _ _ _ _ _ _ _ _ ready long, ready .searchable .short))
+    (ready-seed _ _ _ _ _ _ _ _ (z .pre .0) (z .pre .1 .0), (ready-rising _ _ _ _ _ _ _ _ (z .pre .0) (z .pre .1 .0), z .pre .0 .searchable .short))
 
 cursor-over-requires : tie.Need-cursor-over-requires Inv-loop μ-loop
 cursor-over-requires c κs = search needs
@@ -44,30 +38,23 @@ cursor-over-requires-2 c κs = search needs
 first-candidates-requires : tie.Need-first-candidates-requires Inv-loop μ-loop
 first-candidates-requires c κs =
     let z = c .before .before .before .before .before .before .before .before .before .before .before .before in
-    let a = z .args in
-    let ready = z .pre .0 in
-    let long = z .pre .1 .0 in
     let f = c .before .cursor-over .ensures in
     let g = c .cursor-over2 .ensures in
     let p = c .before .before .before .rarest-seed .ensures in
     let m = c .before .before .rarest-seed2 .ensures in
-    (ready .searchable .lent, (ready-cursor _ _ _ _ _ _ _ _ ready long _ _ (omega (arith, f .1 .1 .0, f .1 .1 .1, p .range-is .ordered)) (omega (arith, f .1 .1 .1, p .range-is .inside)), ready-cursor _ _ _ _ _ _ _ _ ready long _ _ (omega (arith, g .1 .1 .0, g .1 .1 .1, m .range-is .ordered)) (omega (arith, g .1 .1 .1, m .range-is .inside))))
+    (z .pre .0 .searchable .lent, (ready-cursor _ _ _ _ _ _ _ _ (z .pre .0) (z .pre .1 .0) _ _ (omega (arith, f .next-is, f .end-is, p .range-is .ordered)) (omega (arith, f .end-is, p .range-is .inside)), ready-cursor _ _ _ _ _ _ _ _ (z .pre .0) (z .pre .1 .0) _ _ (omega (arith, g .next-is, g .end-is, m .range-is .ordered)) (omega (arith, g .end-is, m .range-is .inside))))
 
 loop-holds : tie.Need-loop-holds Inv-loop μ-loop
 loop-holds c =
     let z = c .before .before .before .before .before .before .before .before .before .before .before .before .before in
     let a = z .args in
-    let ready = z .pre .0 in
-    let long = z .pre .1 .0 in
     let p = c .before .before .before .before .rarest-seed .ensures in
     let m = c .before .before .before .rarest-seed2 .ensures in
     let ss = rankedSequences (a .bases .now) (a .ends .now) (a .ranked .now) in
-    let ch = ready-chosen _ _ _ _ _ _ _ _ ready long _ _ p m in
-    let few = ready-few _ _ _ _ _ _ _ _ ready long in
-    let room = z .pre .1 .1 in
+    let ch = ready-chosen _ _ _ _ _ _ _ _ (z .pre .0) (z .pre .1 .0) _ _ p m _ _ (z .pre .1 .1) in
     let f = c .before .before .cursor-over .ensures in
     let g = c .before .cursor-over2 .ensures in
-    both-start _ ss (a .ranked .now) _ _ _ _ _ _ _ _ ch room few _ _ _ (record { strand-is = f .0; offset-is = f .1 .0; next-is = f .1 .1 .0; end-is = f .1 .1 .1 }) (record { strand-is = g .0; offset-is = g .1 .0; next-is = g .1 .1 .0; end-is = g .1 .1 .1 }) (c .first-candidates .ensures)
+    both-start _ ss (a .ranked .now) _ _ _ _ _ _ _ _ ch _ _ _ f g (c .first-candidates .ensures)
 
 waits-requires : tie.Need-waits-requires Inv-loop μ-loop
 waits-requires c κs = search needs
@@ -82,159 +69,113 @@ visit-requires : tie.Need-visit-requires Inv-loop μ-loop
 visit-requires c κs =
     let z = c .before .before .before .before .before .before .before .before .before .before .before .before .before .before .before .before .before .before .before .before in
     let a = z .args in
-    let ready = z .pre .0 in
-    let long = z .pre .1 .0 in
     let p = c .before .before .before .before .before .before .before .before .before .before .before .rarest-seed .ensures in
     let m = c .before .before .before .before .before .before .before .before .before .before .rarest-seed2 .ensures in
     let ss = rankedSequences (a .bases .now) (a .ends .now) (a .ranked .now) in
-    let ch = ready-chosen _ _ _ _ _ _ _ _ ready long _ _ p m in
-    let few = ready-few _ _ _ _ _ _ _ _ ready long in
-    let room = z .pre .1 .1 in
+    let ch = ready-chosen _ _ _ _ _ _ _ _ (z .pre .0) (z .pre .1 .0) _ _ p m _ _ (z .pre .1 .1) in
     let at = c .before .before .before .before .before .before .loop .inv in
     let first = c .before .before .before .plus-first .ensures in
     let waits = sym (c .before .before .before .before .before .waits .ensures) ∙ c .before .before .before .before .if1 .taken in
     let next = c .before .before .side .ensures in
-    (ready .searchable, (both-fits _ ss (a .ranked .now) _ _ _ _ _ _ _ _ ch room few _ _ _ _ at _ first waits _ next, both-going _ ss (a .ranked .now) _ _ _ _ _ _ _ _ ch room few _ _ _ _ at _ first waits _ next))
+    (z .pre .0 .searchable, (both-fits _ ss (a .ranked .now) _ _ _ _ _ _ _ _ ch _ _ _ _ at _ first waits _ next, both-going _ ss (a .ranked .now) _ _ _ _ _ _ _ _ ch _ _ _ _ at _ first waits _ next))
 
 index-work-requires : tie.Need-index-work-requires Inv-loop μ-loop
 index-work-requires c κs =
     let z = c .before .before .before .before .before .before .before .before .before .before .before .before .before .before .before .before .before .before .before .before .before .before .before .before .before in
     let a = z .args in
-    let ready = z .pre .0 in
-    let long = z .pre .1 .0 in
     let p = c .before .before .before .before .before .before .before .before .before .before .before .before .before .before .before .before .rarest-seed .ensures in
     let m = c .before .before .before .before .before .before .before .before .before .before .before .before .before .before .before .rarest-seed2 .ensures in
-    let ss = rankedSequences (a .bases .now) (a .ends .now) (a .ranked .now) in
-    let ch = ready-chosen _ _ _ _ _ _ _ _ ready long _ _ p m in
-    let few = ready-few _ _ _ _ _ _ _ _ ready long in
-    let room = z .pre .1 .1 in
-    ready-spans _ _ _ _ _ _ _ _ ready long _ _ p m (a .bound) (a .entries .now) _ _ _ _ (c .before .before .before .before .before .before .before .before .before .before .before .loop .inv)
+    ready-spans _ _ _ _ _ _ _ _ (z .pre .0) (z .pre .1 .0) _ _ p m (a .bound) (a .entries .now) _ _ _ _ (c .before .before .before .before .before .before .before .before .before .before .before .loop .inv)
 
 same-length : tie.Need-same-length Inv-loop μ-loop
 same-length c =
     let z = c .before .before .before .before .before .before .before .before .before .before .before .before .before .before .before .before .before .before .before .before .before .before .before .before .before .before in
     let a = z .args in
-    let ready = z .pre .0 in
-    let long = z .pre .1 .0 in
     let p = c .before .before .before .before .before .before .before .before .before .before .before .before .before .before .before .before .before .rarest-seed .ensures in
     let m = c .before .before .before .before .before .before .before .before .before .before .before .before .before .before .before .before .rarest-seed2 .ensures in
     let ss = rankedSequences (a .bases .now) (a .ends .now) (a .ranked .now) in
-    let ch = ready-chosen _ _ _ _ _ _ _ _ ready long _ _ p m in
-    let few = ready-few _ _ _ _ _ _ _ _ ready long in
-    let room = z .pre .1 .1 in
+    let ch = ready-chosen _ _ _ _ _ _ _ _ (z .pre .0) (z .pre .1 .0) _ _ p m _ _ (z .pre .1 .1) in
     let at = c .before .before .before .before .before .before .before .before .before .before .before .before .loop .inv in
-    omega (arith, both-length _ ss (a .ranked .now) _ _ _ _ _ _ _ _ ch room few _ _ _ _ at, c .before .before .before .before .before .visit .kept)
+    omega (arith, both-length _ ss (a .ranked .now) _ _ _ _ _ _ _ _ ch _ _ _ _ at, c .before .before .before .before .before .visit .kept)
 
 returns : tie.Need-returns Inv-loop μ-loop
 returns c =
     let z = c .before .before .before .before .before .before .before .before .before .before .before .before .before .before .before .before .before .before .before .before .before .before .before .before .before .before in
     let a = z .args in
-    let ready = z .pre .0 in
-    let long = z .pre .1 .0 in
     let p = c .before .before .before .before .before .before .before .before .before .before .before .before .before .before .before .before .before .rarest-seed .ensures in
     let m = c .before .before .before .before .before .before .before .before .before .before .before .before .before .before .before .before .rarest-seed2 .ensures in
     let ss = rankedSequences (a .bases .now) (a .ends .now) (a .ranked .now) in
-    let ch = ready-chosen _ _ _ _ _ _ _ _ ready long _ _ p m in
-    let few = ready-few _ _ _ _ _ _ _ _ ready long in
-    let room = z .pre .1 .1 in
+    let ch = ready-chosen _ _ _ _ _ _ _ _ (z .pre .0) (z .pre .1 .0) _ _ p m _ _ (z .pre .1 .1) in
     let at = c .before .before .before .before .before .before .before .before .before .before .before .before .loop .inv in
     let first = c .before .before .before .before .before .before .before .before .before .plus-first .ensures in
     let waits = sym (c .before .before .before .before .before .before .before .before .before .before .before .waits .ensures) ∙ c .before .before .before .before .before .before .before .before .before .before .if1 .taken in
     let next = c .before .before .before .before .before .before .before .before .side .ensures in
-    found-stopped _ ss (a .ranked .now) _ _ _ _ _ _ _ _ ch room few _ _ _ _ at _ first waits _ next _ _ _ (c .before .before .before .before .before .visit .ensures) (c .before .if2 .taken) _ (c .index-work .ensures)
+    found-stopped _ ss (a .ranked .now) _ _ _ _ _ _ _ _ ch _ _ _ _ at _ first waits _ next _ _ _ (c .before .before .before .before .before .visit .ensures) (c .before .if2 .taken) _ (c .index-work .ensures)
 
 moved-requires : tie.Need-moved-requires Inv-loop μ-loop
 moved-requires c κs =
     let z = c .before .before .before .before .before .before .before .before .before .before .before .before .before .before .before .before .before .before .before .before .before .before .before .before .before in
     let a = z .args in
-    let ready = z .pre .0 in
-    let long = z .pre .1 .0 in
     let p = c .before .before .before .before .before .before .before .before .before .before .before .before .before .before .before .before .rarest-seed .ensures in
     let m = c .before .before .before .before .before .before .before .before .before .before .before .before .before .before .before .rarest-seed2 .ensures in
-    let ss = rankedSequences (a .bases .now) (a .ends .now) (a .ranked .now) in
-    let ch = ready-chosen _ _ _ _ _ _ _ _ ready long _ _ p m in
-    let few = ready-few _ _ _ _ _ _ _ _ ready long in
-    let room = z .pre .1 .1 in
-    (ready .searchable .lent, ready-cursors _ _ _ _ _ _ _ _ ready long _ _ p m (a .bound) (a .entries .now) _ _ _ _ (c .before .before .before .before .before .before .before .before .before .before .before .loop .inv))
+    (z .pre .0 .searchable .lent, ready-cursors _ _ _ _ _ _ _ _ (z .pre .0) (z .pre .1 .0) _ _ p m (a .bound) (a .entries .now) _ _ _ _ (c .before .before .before .before .before .before .before .before .before .before .before .loop .inv))
 
 loop-less : tie.Need-loop-less Inv-loop μ-loop
 loop-less c =
     let z = c .before .before .before .before .before .before .before .before .before .before .before .before .before .before .before .before .before .before .before .before .before .before .before .before .before .before in
     let a = z .args in
-    let ready = z .pre .0 in
-    let long = z .pre .1 .0 in
     let p = c .before .before .before .before .before .before .before .before .before .before .before .before .before .before .before .before .before .rarest-seed .ensures in
     let m = c .before .before .before .before .before .before .before .before .before .before .before .before .before .before .before .before .rarest-seed2 .ensures in
     let ss = rankedSequences (a .bases .now) (a .ends .now) (a .ranked .now) in
-    let ch = ready-chosen _ _ _ _ _ _ _ _ ready long _ _ p m in
-    let few = ready-few _ _ _ _ _ _ _ _ ready long in
-    let room = z .pre .1 .1 in
+    let ch = ready-chosen _ _ _ _ _ _ _ _ (z .pre .0) (z .pre .1 .0) _ _ p m _ _ (z .pre .1 .1) in
     let at = c .before .before .before .before .before .before .before .before .before .before .before .before .loop .inv in
     let first = c .before .before .before .before .before .before .before .before .before .plus-first .ensures in
     let waits = sym (c .before .before .before .before .before .before .before .before .before .before .before .waits .ensures) ∙ c .before .before .before .before .before .before .before .before .before .before .if1 .taken in
     let next = c .before .before .before .before .before .before .before .before .side .ensures in
     let t = c .before .before .before .before .before .visit .ensures in
-    omega (arith, both-fewer _ ss (a .ranked .now) _ _ _ _ _ _ _ _ ch room few _ _ _ _ at _ first waits _ next, both-counted _ ss (a .ranked .now) _ _ _ _ _ _ _ _ ch room few _ _ _ _ at _ first waits _ next _ _ _ t)
+    omega (arith, both-fewer _ ss (a .ranked .now) _ _ _ _ _ _ _ _ ch _ _ _ _ at _ first waits _ next, both-counted _ ss (a .ranked .now) _ _ _ _ _ _ _ _ ch _ _ _ _ at _ first waits _ next _ _ _ t)
 
 loop-again : tie.Need-loop-again Inv-loop μ-loop
 loop-again c =
     let z = c .before .before .before .before .before .before .before .before .before .before .before .before .before .before .before .before .before .before .before .before .before .before .before .before .before .before in
     let a = z .args in
-    let ready = z .pre .0 in
-    let long = z .pre .1 .0 in
     let p = c .before .before .before .before .before .before .before .before .before .before .before .before .before .before .before .before .before .rarest-seed .ensures in
     let m = c .before .before .before .before .before .before .before .before .before .before .before .before .before .before .before .before .rarest-seed2 .ensures in
     let ss = rankedSequences (a .bases .now) (a .ends .now) (a .ranked .now) in
-    let ch = ready-chosen _ _ _ _ _ _ _ _ ready long _ _ p m in
-    let few = ready-few _ _ _ _ _ _ _ _ ready long in
-    let room = z .pre .1 .1 in
+    let ch = ready-chosen _ _ _ _ _ _ _ _ (z .pre .0) (z .pre .1 .0) _ _ p m _ _ (z .pre .1 .1) in
     let at = c .before .before .before .before .before .before .before .before .before .before .before .before .loop .inv in
     let first = c .before .before .before .before .before .before .before .before .before .plus-first .ensures in
     let waits = sym (c .before .before .before .before .before .before .before .before .before .before .before .waits .ensures) ∙ c .before .before .before .before .before .before .before .before .before .before .if1 .taken in
     let next = c .before .before .before .before .before .before .before .before .side .ensures in
-    both-more _ ss (a .ranked .now) _ _ _ _ _ _ _ _ ch room few _ _ _ _ at _ first waits _ next _ _ _ (c .before .before .before .before .before .visit .ensures) (c .before .if2 .left) _ (c .moved .ensures)
+    both-more _ ss (a .ranked .now) _ _ _ _ _ _ _ _ ch _ _ _ _ at _ first waits _ next _ _ _ (c .before .before .before .before .before .visit .ensures) (c .before .if2 .left) _ (c .moved .ensures)
 
 index-work-requires-2 : tie.Need-index-work-requires-2 Inv-loop μ-loop
 index-work-requires-2 c κs =
     let z = c .before .before .before .before .before .before .before .before .before .before .before .before .before .before .before .before in
     let a = z .args in
-    let ready = z .pre .0 in
-    let long = z .pre .1 .0 in
     let p = c .before .before .before .before .before .before .before .rarest-seed .ensures in
     let m = c .before .before .before .before .before .before .rarest-seed2 .ensures in
-    let ss = rankedSequences (a .bases .now) (a .ends .now) (a .ranked .now) in
-    let ch = ready-chosen _ _ _ _ _ _ _ _ ready long _ _ p m in
-    let few = ready-few _ _ _ _ _ _ _ _ ready long in
-    let room = z .pre .1 .1 in
-    ready-spans _ _ _ _ _ _ _ _ ready long _ _ p m (a .bound) (a .entries .now) _ _ _ _ (c .before .before .loop .inv)
+    ready-spans _ _ _ _ _ _ _ _ (z .pre .0) (z .pre .1 .0) _ _ p m (a .bound) (a .entries .now) _ _ _ _ (c .before .before .loop .inv)
 
 same-length-2 : tie.Need-same-length-2 Inv-loop μ-loop
 same-length-2 c =
     let z = c .before .before .before .before .before .before .before .before .before .before .before .before .before .before .before .before .before in
     let a = z .args in
-    let ready = z .pre .0 in
-    let long = z .pre .1 .0 in
     let p = c .before .before .before .before .before .before .before .before .rarest-seed .ensures in
     let m = c .before .before .before .before .before .before .before .rarest-seed2 .ensures in
     let ss = rankedSequences (a .bases .now) (a .ends .now) (a .ranked .now) in
-    let ch = ready-chosen _ _ _ _ _ _ _ _ ready long _ _ p m in
-    let few = ready-few _ _ _ _ _ _ _ _ ready long in
-    let room = z .pre .1 .1 in
-    both-length _ ss (a .ranked .now) _ _ _ _ _ _ _ _ ch room few _ _ _ _ (c .before .before .before .loop .inv)
+    let ch = ready-chosen _ _ _ _ _ _ _ _ (z .pre .0) (z .pre .1 .0) _ _ p m _ _ (z .pre .1 .1) in
+    both-length _ ss (a .ranked .now) _ _ _ _ _ _ _ _ ch _ _ _ _ (c .before .before .before .loop .inv)
 
 returns-2 : tie.Need-returns-2 Inv-loop μ-loop
 returns-2 c =
     let z = c .before .before .before .before .before .before .before .before .before .before .before .before .before .before .before .before .before in
     let a = z .args in
-    let ready = z .pre .0 in
-    let long = z .pre .1 .0 in
     let p = c .before .before .before .before .before .before .before .before .rarest-seed .ensures in
     let m = c .before .before .before .before .before .before .before .rarest-seed2 .ensures in
     let ss = rankedSequences (a .bases .now) (a .ends .now) (a .ranked .now) in
-    let ch = ready-chosen _ _ _ _ _ _ _ _ ready long _ _ p m in
-    let few = ready-few _ _ _ _ _ _ _ _ ready long in
-    let room = z .pre .1 .1 in
-    found-all _ ss (a .ranked .now) _ _ _ _ _ _ _ _ ch room few _ _ _ _ (c .before .before .before .loop .inv) _ (c .index-work2 .ensures) (sym (c .before .before .waits .ensures) ∙ c .before .if1 .left)
+    let ch = ready-chosen _ _ _ _ _ _ _ _ (z .pre .0) (z .pre .1 .0) _ _ p m _ _ (z .pre .1 .1) in
+    found-all _ ss (a .ranked .now) _ _ _ _ _ _ _ _ ch _ _ _ _ (c .before .before .before .loop .inv) _ (c .index-work2 .ensures) (sym (c .before .before .waits .ensures) ∙ c .before .if1 .left)
 
 pub search-index-spec : {M : Type 1} → statement M
 search-index-spec =
