@@ -19,6 +19,7 @@ use Rattle.lists.proofs.Same.{same-true}
 use Rattle.bases.specs.Base.{A, C, G, T, isCapital}
 use Rattle.bases.proofs.Bytes.{letter-capital}
 use Rattle.promises.specs.Refusal.{unless, _orElse_}
+use Rattle.promises.proofs.Refusing.{first-stands}
 use Rattle.names.specs.Name.{distinctNames}
 use Rattle.catalogue.specs.Catalogue.{Catalogue, Target, Valid, names, sequences, mapped, inBounds, properSequence, catalogueRefusal}
 use Rattle.catalogue.specs.Ranking.{rankingRefusal, RanksOf}
@@ -29,44 +30,43 @@ use Rattle.seeds.specs.Seeds.{keysOf, ranksOf, positionsOf}
 use Rattle.index.specs.Index.{indexOf, mappedSequences, rankedSequences, seedRight, planRefusal, indexRefusal, columnsOf, Lent, SeedLength, Indexed}
 use Rattle.postings.specs.Answers.{PlanRanked}
 use Rattle.postings.proofs.Planning.{plan-right, no-refusal, ranked-mapped, test-refused}
-use Rattle.places.specs.Place.{Place, folded, groups}
+use Rattle.places.specs.Place.{Place, maxRead, folded, groups}
 use Rattle.scan.specs.Entries.{entryCount}
-use Rattle.search.specs.Work.{Work, work}
-use Rattle.search.specs.Answer.{roomRefusal, maxRead, maxLimit, limitRight, readRefusal, mapRefusal, suppliedPlaces, Answered, MapsTo}
+use Rattle.search.specs.Bounds.{lengthRight, limitRight}
+use Rattle.search.specs.Work.{work}
+use Rattle.search.specs.Answer.{Answered}
 use Rattle.search.specs.Steps.{IndexSearchable, Mappable}
+use Rattle.search.specs.declared.answer.MappingWork.{MappingWork}
 use Rattle.search.specs.declared.answer.MapAnswer.{MapAnswer}
 use Rattle.search.specs.declared.answer.MapAnswer.the-variants as answers
+use Rattle.indexed_mapper.specs.Map.{readRefusal, rankedRefusal, mapRefusal, suppliedPlaces, IndexMapped, MapsTo}
 
 -- ---- refusals of a read and a limit
 
 module _ (read : List ℕ) (limit : ℕ) where
-  pub read-long : maxRead < length read → 7 ≡ readRefusal read limit
+  pub read-long : lengthRight read ≡ false → 7 ≡ readRefusal read limit
   unfolding readRefusal
-  read-long h = rw (lt-leb (length read) maxRead h)
+  read-long e = rw e
 
-  module _ (h : length read ≤ maxRead) where
+  module _ (short : lengthRight read ≡ true) where
     pub read-improper : properSequence read ≡ false → 8 ≡ readRefusal read limit
     unfolding readRefusal
-    read-improper e = rw (le-leb (length read) maxRead h, e)
+    read-improper e = rw (short, e)
 
     module _ (proper : properSequence read ≡ true) where
-      pub limit-none : limit < 1 → 9 ≡ readRefusal read limit
+      pub limit-out : limitRight limit ≡ false → 9 ≡ readRefusal read limit
       unfolding readRefusal
-      limit-none l = rw (le-leb (length read) maxRead h, proper, lt-leb 1 limit l)
+      limit-out e = rw (short, proper, e)
 
-      pub limit-past : 1 ≤ limit → maxLimit < limit → 9 ≡ readRefusal read limit
+      pub read-accepted : limitRight limit ≡ true → 0 ≡ readRefusal read limit
       unfolding readRefusal
-      limit-past k l = rw (le-leb (length read) maxRead h, proper, le-leb 1 limit k, lt-leb limit maxLimit l)
-
-      pub read-accepted : 1 ≤ limit → limit ≤ maxLimit → 0 ≡ readRefusal read limit
-      unfolding readRefusal
-      read-accepted k l = rw (le-leb (length read) maxRead h, proper, le-leb 1 limit k, le-leb limit maxLimit l)
+      read-accepted e = rw (short, proper, e)
 
   -- each number is below 10
   pub read-below : readRefusal read limit < 10
   unfolding readRefusal
   read-below =
-      by-test (leb (length read) maxRead)
+      by-test (lengthRight read)
       (λ e. by-test (properSequence read) (λ f. rw (e, f) (by-test (limitRight limit) (λ g. rw g (omega arith)) (λ g. rw g (omega arith)))) (λ f. rw (e, f) (omega arith)))
       (λ e. rw e (omega arith))
 
@@ -74,7 +74,7 @@ module _ (read : List ℕ) (limit : ℕ) where
   read-right : readRefusal read limit ≡ 0 → (length read ≤ maxRead) × (every isCapital read ≡ true)
   unfolding readRefusal
   read-right z =
-      by-test (leb (length read) maxRead)
+      by-test (lengthRight read)
       (λ e. by-test (properSequence read)
       (λ f. (leb-true (length read) maxRead e, and-true (ltb 0 (length read)) (every isCapital read) f .1))
       (λ f. absurd (omega (arith, rw (e, f) at z))))
@@ -122,12 +122,7 @@ searchable q bases ends ranked ks rs os read limit m z =
 
 -- ---- answers of a refusal
 
--- the first refusal stands
-first-stands : (n m : ℕ) → (n ≡ 0 → ⊥) → n ≡ (n orElse m)
-first-stands zero m ne = absurd (ne refl)
-first-stands (suc n) m ne = refl
-
-module _ (ranked : List ℕ) (k limit : ℕ) (gs : List Place) (w : Work) (b : List ℕ) where
+module _ (ranked : List ℕ) (k limit : ℕ) (gs : List Place) (w : MappingWork) (b : List ℕ) where
   -- refused before a search, with nothing touched
   refused-as : (n refusal : ℕ) → n ≡ refusal → (n ≡ 0 → ⊥) → n < 10 → Answered refusal ranked k limit gs w (answers.Refused n) b b
   refused-as zero refusal e ne h = absurd (ne refl)
@@ -166,7 +161,7 @@ module _ (q : ℕ) (c : Catalogue) (r : Ranking) (buffer : List ℕ) (p : PlanRa
     unfolding mapRefusal
     map-refused n e =
         let ne : n ≡ 0 → ⊥ = rw e at (p .ranks) in
-        let rest : ℕ = readRefusal read limit orElse roomRefusal (entryCount b) limit (length (groups (mappedSequences c) read)) in
+        let rest : ℕ = rankedRefusal (mappedSequences c) read limit (entryCount b) in
         refused-as (suppliedPlaces c) (length read) limit (groups (mappedSequences c) read) (work q (mappedSequences c) read limit) b n (indexRefusal q c ks rs os orElse rest)
         (first-stands n rest ne ∙ ap (λ m. m orElse rest) (test-refused q c r buffer p n e ks rs os)) ne
         (omega (arith, ap rankingRefusal e, p .refusal, plan-below q c))
@@ -176,7 +171,7 @@ module _ (q : ℕ) (c : Catalogue) (r : Ranking) (buffer : List ℕ) (p : PlanRa
       ss = rankedSequences (c .bases) (c .baseEnds) (take k buffer)
 
       -- the answer for the ranked sequences is that for the catalogue
-      pub map-done : (x : MapAnswer) (b′ : List ℕ) → Answered (unless (columnsOf (indexOf q ss) ks rs os) 6 orElse readRefusal read limit orElse roomRefusal (entryCount b) limit (length (groups ss read))) (take k buffer) (length read) limit (groups ss read) (work q ss read limit) x b b′ → MapsTo q c ks rs os read limit x b b′
+      pub map-done : (x : MapAnswer) (b′ : List ℕ) → IndexMapped q ss (take k buffer) ks rs os read limit x b b′ → MapsTo q c ks rs os read limit x b b′
       unfolding mapRefusal indexRefusal
       map-done x b′ a =
           let ranks : RanksOf c k buffer = rw e at (p .ranks) in

@@ -1,48 +1,37 @@
 -- What `map` answers, and what it leaves in the entries (REFERENCE.md, "Mapping").
-use mathlib.Core.Bool.{Bool, _&&_}
+use mathlib.Core.Bool.{Bool}
 use mathlib.Core.List.{List, map}
 use Prim.Native.Nat.{ℕ}
 use lib.ListN.{length}
-use lib.Dec.{leb}
 use Rattle.promises.specs.Refusal.{unless, _orElse_, Outcome}
 use Rattle.catalogue.specs.Catalogue.{Catalogue, Target, properSequence, mapped}
 use Rattle.index.specs.Index.{mappedSequences, indexOf, columnsOf, indexRefusal}
 use Rattle.places.specs.Place.{groups}
 use Rattle.scan.specs.Entries.{entryCount}
+use Rattle.search.specs.Bounds.{lengthRight, limitRight}
 use Rattle.search.specs.Work.{work}
 use Rattle.search.specs.Answer.{Row, roomRefusal, readAnswer, readEntries, Leaves, Answered}
 use Rattle.search.specs.declared.answer.MapAnswer.{MapAnswer}
 
--- ---- the read and the limit
-
-abbrev pub maxRead : ℕ
-maxRead = 65535
-
--- 7 where this fails
-abbrev pub lengthRight : List ℕ → Bool
-lengthRight read = leb (length read) maxRead
+-- ---- refusals
 
 -- 8 where this fails: not empty, and all capitals of ACGT
 abbrev pub basesRight : List ℕ → Bool
 basesRight read = properSequence read
 
-abbrev pub maxLimit : ℕ
-maxLimit = 10000000
-
--- 9 where this fails
-abbrev pub limitRight : ℕ → Bool
-limitRight limit = leb 1 limit && leb limit maxLimit
-
 -- 7, 8, 9: the read and the limit
 unfoldable pub readRefusal : List ℕ → ℕ → ℕ
 readRefusal read limit = unless (lengthRight read) 7 orElse unless (basesRight read) 8 orElse unless (limitRight limit) 9
 
--- ---- map
+-- 7 to 10: the search of sequences by rank whose index is right
+abbrev pub rankedRefusal : List (List ℕ) → List ℕ → ℕ → ℕ → ℕ
+rankedRefusal ss read limit entries = readRefusal read limit orElse roomRefusal entries limit (length (groups ss read))
 
 -- 1 to 4 and 6 to 10, the first whose condition holds
 unfoldable pub mapRefusal : ℕ → Catalogue → List ℕ → List ℕ → List ℕ → List ℕ → ℕ → ℕ → ℕ
-mapRefusal q c ks rs os read limit entries =
-    indexRefusal q c ks rs os orElse readRefusal read limit orElse roomRefusal entries limit (length (groups (mappedSequences c) read))
+mapRefusal q c ks rs os read limit entries = indexRefusal q c ks rs os orElse rankedRefusal (mappedSequences c) read limit entries
+
+-- ---- map
 
 -- the supplied place of each rank
 abbrev pub suppliedPlaces : Catalogue → List ℕ
@@ -63,12 +52,15 @@ MapsTo q c ks rs os read limit r buffer buffer′ = Leaves (mapAnswer q c ks rs 
 
 -- ---- the same for ranked sequences, which need no test
 
+-- with the refusal of the call
+abbrev pub RankedAnswered : ℕ → ℕ → List (List ℕ) → List ℕ → List ℕ → ℕ → MapAnswer → List ℕ → List ℕ → Type 0
+RankedAnswered refusal q ss ranked read limit r buffer buffer′ = Answered refusal ranked (length read) limit (groups ss read) (work q ss read limit) r buffer buffer′
+
 -- the index is right: 7 to 10, or the answer
 abbrev pub ReadMapped : ℕ → List (List ℕ) → List ℕ → List ℕ → ℕ → MapAnswer → List ℕ → List ℕ → Type 0
-ReadMapped q ss ranked read limit r buffer buffer′ =
-    Answered (readRefusal read limit orElse roomRefusal (entryCount buffer) limit (length (groups ss read))) ranked (length read) limit (groups ss read) (work q ss read limit) r buffer buffer′
+ReadMapped q ss ranked read limit r buffer buffer′ = RankedAnswered (rankedRefusal ss read limit (entryCount buffer)) q ss ranked read limit r buffer buffer′
 
 -- the index is tested: 6 to 10, or the answer
-abbrev pub RankedMapped : ℕ → List (List ℕ) → List ℕ → List ℕ → List ℕ → List ℕ → List ℕ → ℕ → MapAnswer → List ℕ → List ℕ → Type 0
-RankedMapped q ss ranked ks rs os read limit r buffer buffer′ =
-    Answered (unless (columnsOf (indexOf q ss) ks rs os) 6 orElse readRefusal read limit orElse roomRefusal (entryCount buffer) limit (length (groups ss read))) ranked (length read) limit (groups ss read) (work q ss read limit) r buffer buffer′
+abbrev pub IndexMapped : ℕ → List (List ℕ) → List ℕ → List ℕ → List ℕ → List ℕ → List ℕ → ℕ → MapAnswer → List ℕ → List ℕ → Type 0
+IndexMapped q ss ranked ks rs os read limit r buffer buffer′ =
+    RankedAnswered (unless (columnsOf (indexOf q ss) ks rs os) 6 orElse rankedRefusal ss read limit (entryCount buffer)) q ss ranked read limit r buffer buffer′

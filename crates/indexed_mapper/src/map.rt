@@ -1,39 +1,30 @@
 // The public call that maps a read.
 ghost use mathlib.Core.Path.{_≡_};
-ghost use mathlib.Core.Bool.{true};
-ghost use lib.ListN.{length};
-ghost use Rattle.lists.specs.Filter.{every};
 ghost use Rattle.promises.specs.Slice.{old, new};
-ghost use Rattle.bases.specs.Base.{isCapital};
-ghost use Rattle.promises.specs.Refusal.{unless, _orElse_};
 ghost use Rattle.catalogue.specs.Catalogue.{lentCatalogue};
-ghost use Rattle.index.specs.Index.{rankedSequences, indexOf, columnsOf, Lent, SeedLength, lentSequences};
-ghost use Rattle.places.specs.Place.{groups};
-ghost use Rattle.scan.specs.Entries.{entryCount};
-ghost use Rattle.search.specs.Work.{work};
-ghost use Rattle.search.specs.Answer.{readRefusal, roomRefusal, Answered, MapsTo};
+ghost use Rattle.index.specs.Index.{Lent, SeedLength, lentSequences};
 ghost use Rattle.search.specs.Steps.{Mappable};
+ghost use Rattle.indexed_mapper.specs.Map.{readRefusal, ReadMapped, IndexMapped, MapsTo};
 use catalogue::bounds::proper_sequence;
 use catalogue::ranks::Ranking;
 use index::test::is_index;
 use postings::plan::rank_checked;
 use search::answer::MapAnswer;
+use search::bounds::length_right;
+use search::bounds::limit_right;
 use search::search;
 
 // Tests a read and a limit: refusals 7, 8 and 9, or 0.
 pub fn check_read(read: &[u8], limit: u64) -> u64
     ensures { λ r. ⌜ r ≡ readRefusal (old read) limit ⌝ }
 {
-    if 65535 < read.len() {
+    if !length_right(read) {
         return 7;
     }
     if !proper_sequence(read) {
         return 8;
     }
-    if limit < 1 {
-        return 9;
-    }
-    if 10000000 < limit {
+    if !limit_right(limit) {
         return 9;
     }
     0
@@ -53,7 +44,7 @@ pub fn map_read(
     limit: u64,
 ) -> MapAnswer
     requires { ⌜ Mappable q (now bases) (now ends) (now ranked) (now keys) (now ranks) (now positions) ⌝ }
-    ensures { λ r. ⌜ Answered (readRefusal (old read) limit orElse roomRefusal (entryCount (old entries)) limit (length (groups (lentSequences bases ends ranked) (old read)))) (old ranked) (length (old read)) limit (groups (lentSequences bases ends ranked) (old read)) (work q (lentSequences bases ends ranked) (old read) limit) r (old entries) (new entries) ⌝ }
+    ensures { λ r. ⌜ ReadMapped q (lentSequences bases ends ranked) (old ranked) (old read) limit r (old entries) (new entries) ⌝ }
 {
     let refusal = check_read(read, limit);
     if refusal != 0 {
@@ -87,7 +78,7 @@ fn map_ranked(
     limit: u64,
 ) -> MapAnswer
     requires { ⌜ Lent (now bases) (now ends) (now ranked) × SeedLength q ⌝ }
-    ensures { λ r. ⌜ Answered (unless (columnsOf (indexOf q (lentSequences bases ends ranked)) (old keys) (old ranks) (old positions)) 6 orElse readRefusal (old read) limit orElse roomRefusal (entryCount (old entries)) limit (length (groups (lentSequences bases ends ranked) (old read)))) (old ranked) (length (old read)) limit (groups (lentSequences bases ends ranked) (old read)) (work q (lentSequences bases ends ranked) (old read) limit) r (old entries) (new entries) ⌝ }
+    ensures { λ r. ⌜ IndexMapped q (lentSequences bases ends ranked) (old ranked) (old keys) (old ranks) (old positions) (old read) limit r (old entries) (new entries) ⌝ }
 {
     if !is_index(keys, ranks, positions, bases, ends, ranked, q) {
         return MapAnswer::Refused(6);

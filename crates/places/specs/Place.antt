@@ -48,6 +48,10 @@ placesFrom r n (s ∷ ss) = placesIn r 0 (starts n s) ++ placesFrom (suc r) n ss
 unfoldable pub places : ℕ → List (List ℕ) → List Place
 places n ss = placesFrom 0 n ss
 
+-- the most bases that a read may have
+abbrev pub maxRead : ℕ
+maxRead = 65535
+
 -- bases in upper case
 abbrev pub folded : List ℕ → List ℕ
 folded read = map upperOf read

@@ -96,7 +96,7 @@ module _ (b : List ℕ) where
   length-zeros : length (replicate {A = ℕ} (4 * entryCount b) 0) ≡ 4 * entryCount b
   length-zeros = length-replicate {A = ℕ} (4 * entryCount b) 0
 
-  length-cleared : length (cleared b) ≡ length b
+  pub length-cleared : length (cleared b) ≡ length b
   length-cleared = length-placed 0 (replicate (4 * entryCount b) 0) b (omega (arith, length-zeros))
 
   module _ (rows : List ℕ) (h : length rows ≤ 4 * entryCount b) where

@@ -4,3 +4,4 @@ pub mod Merging
 pub mod Finding
 pub mod Readying
 pub mod Concluding
+pub mod Parts

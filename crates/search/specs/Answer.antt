@@ -5,6 +5,7 @@ use mathlib.Core.List.{List, []}
 use Prim.Native.Nat.{ℕ, zero, suc}
 use lib.ListN.{length}
 use lib.Dec.{eqb, ltb}
+use Rattle.lists.specs.Cut.{window}
 use Rattle.promises.specs.Refusal.{unless, Outcome, refused, accepted, outcome}
 use Rattle.seeds.specs.Seeds.{placed}
 use Rattle.places.specs.Place.{Place, groups}
@@ -81,7 +82,19 @@ pub record Leaves (outcome : Outcome Row) (numbers : List ℕ) (r : MapAnswer) (
 abbrev pub Answered : ℕ → List ℕ → ℕ → ℕ → List Place → MappingWork → MapAnswer → List ℕ → List ℕ → Type 0
 Answered refusal ranked n limit gs w r buffer buffer′ = Leaves (readAnswer refusal limit gs w) (readEntries refusal ranked n limit gs buffer) r buffer′
 
--- a search in either way: refused by 10, or the row of the read and its groups
+-- ---- a search in either way: refused by 10, or the row of the read and its groups
+
+abbrev pub searchAnswer : Way → List (List ℕ) → List ℕ → ℕ → ℕ → Outcome Row
+searchAnswer way ss read limit entries = readAnswer (roomRefusal entries limit (length (groups ss read))) limit (groups ss read) (workBy way ss read limit)
+
+abbrev pub searchEntries : List (List ℕ) → List ℕ → List ℕ → ℕ → List ℕ → List ℕ
+searchEntries ss ranked read limit buffer =
+    readEntries (roomRefusal (entryCount buffer) limit (length (groups ss read))) ranked (length read) limit (groups ss read) buffer
+
 abbrev pub SearchAnswered : Way → List (List ℕ) → List ℕ → List ℕ → ℕ → MapAnswer → List ℕ → List ℕ → Type 0
-SearchAnswered way ss ranked read limit r buffer buffer′ =
-    Answered (roomRefusal (entryCount buffer) limit (length (groups ss read))) ranked (length read) limit (groups ss read) (workBy way ss read limit) r buffer buffer′
+SearchAnswered way ss ranked read limit r buffer buffer′ = Leaves (searchAnswer way ss read limit (entryCount buffer)) (searchEntries ss ranked read limit buffer) r buffer′
+
+-- a search into the `width` numbers of a buffer from a place on; the others stay
+pub record PartSearched (way : Way) (ss : List (List ℕ)) (ranked read : List ℕ) (limit from width : ℕ) (r : MapAnswer) (buffer buffer′ : List ℕ) : Type 0 where
+  pub answer : answerOf r ≡ searchAnswer way ss read limit (entryCount (window buffer from width))
+  pub part : buffer′ ≡ placed from (searchEntries ss ranked read limit (window buffer from width)) buffer

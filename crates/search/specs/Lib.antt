@@ -1,3 +1,4 @@
+pub mod Bounds
 pub mod Work
 pub mod Answer
 pub mod Steps

@@ -1,11 +1,12 @@
 // The search by index, the search at every start, and what they answer.
 ghost use mathlib.Core.Path.{_≡_};
-ghost use Prim.Native.Nat.{min};
+ghost use Prim.Native.Nat.{_+_, _≤_, min};
+ghost use lib.ListN.{length};
 ghost use Rattle.promises.specs.Slice.{old, new};
 ghost use Rattle.index.specs.Index.{lentSequences};
 ghost use Rattle.scan.specs.Searched.{Searchable};
 ghost use Rattle.search.specs.Work.{byIndex, plain};
-ghost use Rattle.search.specs.Answer.{SearchAnswered};
+ghost use Rattle.search.specs.Answer.{SearchAnswered, PartSearched};
 ghost use Rattle.search.specs.Steps.{IndexSearchable, Concluded};
 use answer::MapAnswer;
 use answer::Mapping;
@@ -18,6 +19,7 @@ use scan::entries::clear_entries;
 use scan::every_start::scan;
 
 pub mod answer;
+pub mod bounds;
 pub mod by_index;
 
 // The lesser of the limit and the number of entries: a search need not go on past either.
@@ -107,4 +109,38 @@ pub fn search(
         bound,
     );
     conclude(entries, limit, bound, work)
+}
+
+// Searches into `width` numbers of the entries from a place on.
+pub fn search_part(
+    entries: &mut [u64],
+    from: usize,
+    width: usize,
+    bases: &[u8],
+    ends: &[usize],
+    ranked: &[usize],
+    keys: &[u64],
+    ranks: &[u64],
+    positions: &[u64],
+    q: usize,
+    read: &[u8],
+    limit: u64,
+) -> MapAnswer
+    requires { ⌜ IndexSearchable q (now bases) (now ends) (now ranked) (now keys) (now ranks) (now positions) (now read) ⌝ }
+    requires { ⌜ from + width ≤ length (now entries) ⌝ }
+    ensures { λ r. ⌜ PartSearched (byIndex q) (lentSequences bases ends ranked) (old ranked) (old read) limit from width r (old entries) (new entries) ⌝ }
+{
+    let end = from + width;
+    search(
+        &mut entries[from..end],
+        bases,
+        ends,
+        ranked,
+        keys,
+        ranks,
+        positions,
+        q,
+        read,
+        limit,
+    )
 }
