@@ -158,6 +158,13 @@ at-its-place c within t m =
     let z : t .place ≡ r .0 = ap (λ u. u .place) (r .2) ∙ zero-add (r .0) in
     (omega (arith, r .1, b .sequenced, length-cut 0 (c .identifierEnds) (c .identifiers)), ap (λ u. u .bases) (r .2) ∙ ap (λ j. getD (sequences c) j []) (sym z))
 
+-- and its name
+pub named-by-place : (c : Catalogue) (t : Target) → t ∈ targets c → t .identifier ≡ getD (names c) (t .place) []
+named-by-place c t m =
+    let r = targets-∈ 0 (names c) (sequences c) (c .marks) t m in
+    let z : t .place ≡ r .0 = ap (λ u. u .place) (r .2) ∙ zero-add (r .0) in
+    ap (λ u. u .identifier) (r .2) ∙ ap (λ j. getD (names c) j []) (sym z)
+
 -- what a target is, but for its place
 abbrev pub content : Target → List ℕ × List ℕ
 content t = (t .identifier, t .bases)

@@ -10,7 +10,7 @@ use Rattle.index.specs.Index.{indexOf, planRefusal, indexRefusal}
 use Rattle.places.specs.Place.{places, matches, groups}
 use Rattle.candidates.specs.Search.{comparable}
 use Rattle.search.specs.Work.{work}
-use Rattle.search.specs.Answer.{readRefusal, mapRefusal}
+use Rattle.indexed_mapper.specs.Map.{readRefusal, mapRefusal}
 use Rattle.indexed_mapper.specs.Board.{examples, AllHold}
 
 pub board-holds : AllHold examples

@@ -1,167 +1,191 @@
--- What a user of `map` may rely on.
+-- What a user of `map` may rely on, and two searches held against each other.
 -- Assumes nothing.
 use mathlib.Core.Path.{_≡_, refl, sym, ap, ap₂, _∙_}
 use mathlib.Core.Bool.{Bool, true, false, _&&_}
 use mathlib.Core.Logic.{_↔_}
-use mathlib.Core.List.{List, [], _∷_, map}
-use Prim.Native.Nat.{ℕ, zero, suc, _<_, _≤_}
+use mathlib.Core.List.{List, [], _∷_, _++_, map}
+use Prim.Native.Nat.{ℕ, zero, suc, _+_, _*_, _<_, _≤_}
 use native.Mathlib.Omega.{arith}
-use lib.ListN.{length, length-map}
+use lib.ListN.{length, take, drop, length-map}
+use lib.Seq.{take-at}
 use lib.Dec.{ltb}
 use borrow.Author.Tests.{ne-eqb, lt-ltb, ltb-true}
 use Rattle.lists.specs.Filter.{every}
-use Rattle.lists.specs.Member.{_∈_}
 use Rattle.lists.proofs.Cases.{by-test, same-test}
 use Rattle.lists.proofs.Reverse.{every-reverse}
 use Rattle.lists.proofs.Sort.{length-sort}
+use Rattle.promises.specs.Refusal.{_orElse_, Outcome, refused, accepted, outcome}
+use Rattle.promises.proofs.Refusing.{none-first, outcome-accepted, outcome-number}
 use Rattle.bases.specs.Base.{complementOf, isCapital}
 use Rattle.bases.specs.Read.{reverseComplement}
 use Rattle.bases.proofs.Bytes.{complement-twice}
 use Rattle.bases.proofs.Turning.{length-reverse-complement}
-use Rattle.catalogue.specs.Catalogue.{Catalogue}
+use Rattle.catalogue.specs.Catalogue.{Catalogue, Valid}
 use Rattle.seeds.specs.Seeds.{placed}
-use Rattle.index.specs.Index.{mappedSequences}
-use Rattle.places.specs.Place.{Place, Fits, matches, groups}
-use Rattle.places.proofs.Placing.{groups-∈, ∈-groups}
+use Rattle.index.specs.Index.{mappedSequences, planRefusal, indexRefusal}
+use Rattle.postings.proofs.Planning.{plan-right}
+use Rattle.places.specs.Place.{Place, groups}
 use Rattle.places.proofs.Swapping.{groups-turned}
 use Rattle.candidates.proofs.Candidates.{comparable-fewer}
 use Rattle.scan.specs.Entries.{entriesOf, entryCount, cleared}
-use Rattle.search.specs.Work.{Work, noWork, work, scanWork}
-use Rattle.search.specs.Answer.{Answer, answerOf, stateOf, listed, accepted, answerUnless, entriesAfter, roomRefusal, readRefusal, mapRefusal, suppliedPlaces, SearchAnswered, MapsTo}
-use Rattle.indexed_mapper.specs.Laws.{Complete, SearchesAgree, TurnedAnswer}
+use Rattle.scan.proofs.Going.{length-entries}
+use Rattle.search.specs.Work.{work, scanWork, Way, byIndex, plain, workBy}
+use Rattle.search.specs.Answer.{Row, answerOf, stateOf, listed, mappedRow, entriesAfter, roomRefusal, readEntries, SearchAnswered}
+use Rattle.search.specs.declared.answer.MappingWork.{MappingWork}
 use Rattle.search.specs.declared.answer.MapAnswer.{MapAnswer}
+use Rattle.indexed_mapper.specs.Map.{readRefusal, rankedRefusal, mapRefusal, suppliedPlaces, MapsTo}
+use Rattle.indexed_mapper.specs.Match.{Match, Lists}
+use Rattle.indexed_mapper.specs.Laws.{SearchesAgree, turnedGroups, TurnedAnswer}
 use Rattle.indexed_mapper.proofs.Mapping.{at-capitals}
+use Rattle.indexed_mapper.proofs.Matching.{matchesOf, matches-exactly, matches-ascend, matches-entries}
 
--- ---- one answer
-
-accepted-is : (limit : ℕ) (gs : List Place) (w : Work) → (accepted limit gs w .refusal ≡ 0) × (accepted limit gs w .work ≡ w)
-accepted-is limit gs w = by-test (ltb limit (length gs)) (λ t. rw t (refl, refl)) (λ t. rw t (refl, refl))
-
-refusal-kept : (n : ℕ) (a : Answer) → a .refusal ≡ 0 → answerUnless n a .refusal ≡ n
-refusal-kept zero a z = z
-refusal-kept (suc n) a z = refl
-
-work-none : (n : ℕ) (a : Answer) → (n ≡ 0 → ⊥) → answerUnless n a .work ≡ noWork
-work-none zero a ne = absurd (ne refl)
-work-none (suc n) a ne = refl
-
-entries-kept : (n : ℕ) (rows b : List ℕ) → (n ≡ 0 → ⊥) → (n ≡ 10 → ⊥) → entriesAfter n rows b ≡ b
-entries-kept zero rows b ne nt = absurd (ne refl)
-entries-kept (suc n) rows b ne nt = rw (ne-eqb (suc n) 10 nt)
+-- ---- the row of a read
 
 determinate : (n : ℕ) → stateOf n ≡ 2 → ⊥
 determinate zero e = omega arith
 determinate (suc zero) e = omega arith
 determinate (suc (suc n)) e = omega arith
 
+module _ (limit : ℕ) (gs : List Place) (w : MappingWork) where
+  -- indeterminate exactly if there are more groups than the limit
+  row-indeterminate : (mappedRow limit gs w .state ≡ 2) ↔ (limit < length gs)
+  row-indeterminate = (
+    λ e. by-test (ltb limit (length gs)) (λ t. ltb-true limit (length gs) t) (λ t. absurd (determinate (length gs) (rw t at e))),
+    λ h. rw (lt-ltb limit (length gs) h),
+  )
+
+  few : (mappedRow limit gs w .state ≡ 2 → ⊥) → ltb limit (length gs) ≡ false
+  few ne = by-test (ltb limit (length gs)) (λ t. absurd (ne (rw t))) (λ t. t)
+
+  -- the number of groups is that of the listed ones, and the work is that of the search
+  row-groups : mappedRow limit gs w .groups ≡ length (listed limit gs)
+  row-groups = by-test (ltb limit (length gs)) (λ t. rw t) (λ t. rw t)
+
+  row-work : mappedRow limit gs w .work ≡ w
+  row-work = by-test (ltb limit (length gs)) (λ t. rw t) (λ t. rw t)
+
+-- ---- one answer: demand 2 for the mapper
+
 module _ (q : ℕ) (c : Catalogue) (ks rs os read : List ℕ) (limit : ℕ) (r : MapAnswer) (b b′ : List ℕ) (m : MapsTo q c ks rs os read limit r b b′) where
-  abbrev gs : List Place
-  gs = groups (mappedSequences c) read
+  -- a refusal is the first whose condition holds, and it is never 0
+  pub map-number : (n : ℕ) → answerOf r ≡ refused n → (mapRefusal q c ks rs os read limit (entryCount b) ≡ n) × (n ≡ 0 → ⊥)
+  map-number n e = outcome-number (mapRefusal q c ks rs os read limit (entryCount b)) n _ (sym (m .answer) ∙ e)
 
-  abbrev w : Work
-  w = work q (mappedSequences c) read limit
+  module _ (a : Row) (told : answerOf r ≡ accepted a) where
+    none : (mapRefusal q c ks rs os read limit (entryCount b) ≡ 0) × (mappedRow limit (groups (mappedSequences c) read) (work q (mappedSequences c) read limit) ≡ a)
+    none = outcome-accepted (mapRefusal q c ks rs os read limit (entryCount b)) _ a (sym (m .answer) ∙ told)
 
-  -- a refusal is the first whose condition holds, and 0 where there is none
-  pub refusal-is : answerOf r .refusal ≡ mapRefusal q c ks rs os read limit (entryCount b)
-  refusal-is = ap (λ (a : Answer). a .refusal) (m .answer) ∙ refusal-kept _ _ (accepted-is limit gs w .0)
+    right : Valid c
+    unfolding mapRefusal indexRefusal
+    right = plan-right q c (none-first (planRefusal q c) _ (none-first (indexRefusal q c ks rs os) _ (none .0))) .1
 
-  answer-by : answerOf r ≡ answerUnless (answerOf r .refusal) (accepted limit gs w)
-  answer-by = rw refusal-is (m .answer)
+    state-is : a .state ≡ mappedRow limit (groups (mappedSequences c) read) (work q (mappedSequences c) read limit) .state
+    state-is = ap (λ (x : Row). x .state) (sym (none .1))
 
-  entries-by : b′ ≡ entriesAfter (answerOf r .refusal) (entriesOf (suppliedPlaces c) (length read) (listed limit gs)) b
-  entries-by = rw refusal-is (m .entries)
+    as-many : length (matchesOf c right read) ≡ length (groups (mappedSequences c) read)
+    as-many = length-map (groups (mappedSequences c) read) _
 
-  module _ (refused : answerOf r .refusal ≡ 0 → ⊥) where
-    -- a refused call counts no work
-    pub refused-work : answerOf r .work ≡ noWork
-    refused-work = ap (λ (a : Answer). a .work) answer-by ∙ work-none _ _ refused
-
-    -- and leaves the entries as they were, unless they were too few
-    pub refused-entries : (answerOf r .refusal ≡ 10 → ⊥) → b′ ≡ b
-    refused-entries roomy = entries-by ∙ entries-kept _ _ b refused roomy
-
-  -- entries that were too few are set to zero
-  pub crowded-entries : answerOf r .refusal ≡ 10 → b′ ≡ cleared b
-  crowded-entries e = rw e at entries-by
-
-  module _ (z : answerOf r .refusal ≡ 0) where
-    answer-is : answerOf r ≡ accepted limit gs w
-    answer-is = rw z at answer-by
-
-    entries-are : b′ ≡ placed 0 (entriesOf (suppliedPlaces c) (length read) (listed limit gs)) (cleared b)
-    entries-are = rw z at entries-by
+    -- of an answer that is neither refused nor indeterminate the entries are exactly the matches, each once, ascending by
+    -- rank, start and strand; an accepted read is indeterminate exactly if it has more matches than the limit
+    pub map-lists : Lists c read limit a b b′
+    map-lists =
+        record {
+          matches = matchesOf c right read;
+          exactly = matches-exactly c right read;
+          ascending = matches-ascend c right read;
+          indeterminate = rw (as-many, state-is) (row-indeterminate limit (groups (mappedSequences c) read) (work q (mappedSequences c) read limit));
+          number = λ ne. let f = few limit (groups (mappedSequences c) read) (work q (mappedSequences c) read limit) (rw state-is at ne) in ap (λ (x : Row). x .groups) (sym (none .1)) ∙ rw (f, as-many);
+          entries = λ ne. let f = few limit (groups (mappedSequences c) read) (work q (mappedSequences c) read limit) (rw state-is at ne) in rw (none .0, f) at (m .entries) ∙ ap (λ l. placed 0 l (cleared b)) (matches-entries c right read);
+        }
 
     -- the work is that of the search by index under the limit
-    pub work-is : answerOf r .work ≡ work q (mappedSequences c) read limit
-    work-is = ap (λ (a : Answer). a .work) answer-is ∙ accepted-is limit gs w .1
+    pub map-work : a .work ≡ work q (mappedSequences c) read limit
+    map-work = ap (λ (x : Row). x .work) (sym (none .1)) ∙ row-work limit (groups (mappedSequences c) read) (work q (mappedSequences c) read limit)
 
-    -- a read is indeterminate exactly if it has more groups than the limit
-    pub indeterminate-exactly : (answerOf r .state ≡ 2) ↔ (limit < length (groups (mappedSequences c) read))
-    indeterminate-exactly = (
-      λ e. by-test (ltb limit (length gs)) (λ t. ltb-true limit (length gs) t) (λ t. absurd (determinate (length gs) (sym (ap (λ (a : Answer). a .state) (rw t at answer-is)) ∙ e))),
-      λ h. ap (λ (a : Answer). a .state) (rw (lt-ltb limit (length gs) h) at answer-is),
-    )
+-- ---- two searches of one list of sequences
 
-    -- and then every entry is zero
-    pub indeterminate-entries : answerOf r .state ≡ 2 → b′ ≡ cleared b
-    indeterminate-entries e = rw (lt-ltb limit (length gs) (indeterminate-exactly .0 e)) at entries-are
+module _ (ss : List (List ℕ)) (ranked read : List ℕ) (limit : ℕ) (way : Way) (r : MapAnswer) (b b′ : List ℕ) (s : SearchAnswered way ss ranked read limit r b b′) (a : Row) (told : answerOf r ≡ accepted a) where
+  abbrev gs : List Place
+  gs = groups ss read
 
-  module _ (complete : Complete r) where
-    few : ltb limit (length gs) ≡ false
-    few = by-test (ltb limit (length gs)) (λ t. absurd (complete .1 (indeterminate-exactly (complete .0) .1 (ltb-true limit (length gs) t)))) (λ t. t)
+  found : (roomRefusal (entryCount b) limit (length gs) ≡ 0) × (mappedRow limit gs (workBy way ss read limit) ≡ a)
+  found = outcome-accepted (roomRefusal (entryCount b) limit (length gs)) _ a (sym (s .answer) ∙ told)
 
-    -- a complete answer has the number of all groups
-    pub complete-number : answerOf r .groups ≡ length (groups (mappedSequences c) read)
-    complete-number = ap (λ (a : Answer). a .groups) (rw few at (answer-is (complete .0)))
+  search-groups : a .groups ≡ length (listed limit gs)
+  search-groups = ap (λ (x : Row). x .groups) (sym (found .1)) ∙ row-groups limit gs (workBy way ss read limit)
 
-    -- its state is unmapped, single or multiple by that number
-    pub complete-state : answerOf r .state ≡ stateOf (answerOf r .groups)
-    complete-state = rw complete-number (ap (λ (a : Answer). a .state) (rw few at (answer-is (complete .0))))
+  search-work : a .work ≡ workBy way ss read limit
+  search-work = ap (λ (x : Row). x .work) (sym (found .1)) ∙ row-work limit gs (workBy way ss read limit)
 
-    -- and its entries are those of all groups, in front of zeros
-    pub complete-entries : b′ ≡ placed 0 (entriesOf (suppliedPlaces c) (length read) (groups (mappedSequences c) read)) (cleared b)
-    complete-entries = rw few at (entries-are (complete .0))
+  -- the listed groups stand at the front of the entries
+  search-rows : take (4 * a .groups) b′ ≡ entriesOf ranked (length read) (listed limit gs)
+  search-rows =
+      ap₂ take (ap (λ n. 4 * n) search-groups ∙ sym (length-entries ranked (length read) (listed limit gs))) (rw (found .0) at (s .entries))
+      ∙ take-at (entriesOf ranked (length read) (listed limit gs)) _ (length (entriesOf ranked (length read) (listed limit gs))) refl
 
--- the groups are exactly the places where the read fits and matches; they ascend, each once, by `groups-ascending` of places
-pub complete-exactly : (c : Catalogue) (read : List ℕ) (p : Place) → (p ∈ groups (mappedSequences c) read) ↔ (Fits (length read) (mappedSequences c) p × (matches (mappedSequences c) read p ≡ true))
-complete-exactly c read p = (groups-∈ (mappedSequences c) read p, λ h. ∈-groups (mappedSequences c) read p (h .0) (h .1))
-
--- ---- two answers
-
--- all of an answer but its work
-abbrev outcome : Answer → ℕ × ℕ × ℕ
-outcome a = (a .refusal, a .state, a .groups)
-
-module _ (limit : ℕ) (gs gs′ : List Place) (w w′ : Work) (r r′ : MapAnswer) (same : length gs ≡ length gs′) where
-  outcome-same : (n n′ : ℕ) → n ≡ n′ → answerOf r ≡ answerUnless n (accepted limit gs w) → answerOf r′ ≡ answerUnless n′ (accepted limit gs′ w′) → outcome (answerOf r) ≡ outcome (answerOf r′)
-  outcome-same n n′ e a a′ = rw (a, a′, e) (go n′)
-    where
-      go : (k : ℕ) → outcome (answerUnless k (accepted limit gs w)) ≡ outcome (answerUnless k (accepted limit gs′ w′))
-      go zero = rw same (by-test (ltb limit (length gs′)) (λ t. rw t) (λ t. rw t))
-      go (suc k) = refl
-
--- ---- the search by index and the search at every start
-
-module _ (ss : List (List ℕ)) (ranked read : List ℕ) (limit : ℕ) where
-  fewer-compared : (w w′ : Work) → w .comparisons ≤ w′ .comparisons → (n : ℕ) → answerUnless n (accepted limit (groups ss read) w) .work .comparisons ≤ answerUnless n (accepted limit (groups ss read) w′) .work .comparisons
-  fewer-compared w w′ h zero = rw (accepted-is limit (groups ss read) w .1, accepted-is limit (groups ss read) w′ .1) h
-  fewer-compared w w′ h (suc n) = omega arith
-
-  -- both searches answer the same, and the one by index compares no more
-  pub searches-agree : (q : ℕ) → 1 ≤ q → (r r′ : MapAnswer) (b b′ d d′ : List ℕ) → entryCount b ≡ entryCount d → SearchAnswered ss ranked read limit (work q ss read limit) r b b′ → SearchAnswered ss ranked read limit (scanWork ss read limit) r′ d d′ → SearchesAgree r r′ b b′ d d′
-  unfolding work scanWork
-  searches-agree q some r r′ b b′ d d′ e a a′ =
-      let room : ℕ → ℕ = λ n. roomRefusal n limit (length (groups ss read)) in
-      let o = outcome-same limit (groups ss read) (groups ss read) _ _ r r′ refl _ _ (ap room e) (a .answer) (a′ .answer) in
-      record {
-        refusal = ap (λ t. t .0) o;
-        state = ap (λ t. t .1) o;
-        groups = ap (λ t. t .2) o;
-        fewer = rw (a .answer, a′ .answer, e) (fewer-compared (work q ss read limit) (scanWork ss read limit) (comparable-fewer q ss read some limit) (room (entryCount d)));
-        entries = λ f. a .entries ∙ ap (λ l. entriesAfter (room (entryCount l)) (entriesOf ranked (length read) (listed limit (groups ss read))) l) f ∙ sym (a′ .entries);
-      }
+-- neither is refused: the search by index and the search at every start agree, and the index compares no more
+pub searches-agree : (q : ℕ) → 1 ≤ q → (ss : List (List ℕ)) (ranked read : List ℕ) (limit : ℕ) (r r′ : MapAnswer) (b b′ d d′ : List ℕ)
+    → SearchAnswered (byIndex q) ss ranked read limit r b b′ → SearchAnswered plain ss ranked read limit r′ d d′
+    → (a a′ : Row) → answerOf r ≡ accepted a → answerOf r′ ≡ accepted a′ → SearchesAgree a a′ b′ d′
+unfolding work scanWork
+searches-agree q some ss ranked read limit r r′ b b′ d d′ s s′ a a′ e e′ =
+    let gs : List Place = groups ss read in
+    let f = found ss ranked read limit (byIndex q) r b b′ s a e in
+    let f′ = found ss ranked read limit plain r′ d d′ s′ a′ e′ in
+    record {
+      state = ap (λ (x : Row). x .state) (sym (f .1)) ∙ by-test (ltb limit (length gs)) (λ t. rw t) (λ t. rw t) ∙ ap (λ (x : Row). x .state) (f′ .1);
+      groups = search-groups ss ranked read limit (byIndex q) r b b′ s a e ∙ sym (search-groups ss ranked read limit plain r′ d d′ s′ a′ e′);
+      rows = search-rows ss ranked read limit (byIndex q) r b b′ s a e ∙ sym (search-rows ss ranked read limit plain r′ d d′ s′ a′ e′);
+      fewer = rw (search-work ss ranked read limit (byIndex q) r b b′ s a e, search-work ss ranked read limit plain r′ d d′ s′ a′ e′) (comparable-fewer q ss read some limit);
+    }
 
 -- ---- a read turned round
+
+module _ (ss : List (List ℕ)) (read : List ℕ) where
+  number-turned : length (groups ss (reverseComplement read)) ≡ length (groups ss read)
+  number-turned = rw (groups-turned, length-sort, length-map)
+
+  listed-turned : (limit : ℕ) → listed limit (groups ss (reverseComplement read)) ≡ turnedGroups (listed limit (groups ss read))
+  listed-turned limit = rw number-turned (by-test (ltb limit (length (groups ss read))) (λ t. rw t) (λ t. rw t (groups-turned ss read)))
+
+-- neither is refused: a search, in either way, of the read turned round has the same state and groups with their strands exchanged
+pub search-turned : (ss : List (List ℕ)) (ranked read : List ℕ) (limit : ℕ) (way way′ : Way) (r r′ : MapAnswer) (b b′ d d′ : List ℕ)
+    → SearchAnswered way ss ranked read limit r b b′ → SearchAnswered way′ ss ranked (reverseComplement read) limit r′ d d′
+    → (a a′ : Row) → answerOf r ≡ accepted a → answerOf r′ ≡ accepted a′ → TurnedAnswer ranked (length read) limit (groups ss read) a a′ d′
+search-turned ss ranked read limit way way′ r r′ b b′ d d′ s s′ a a′ e e′ =
+    let gs : List Place = groups ss read in
+    let f = found ss ranked read limit way r b b′ s a e in
+    let f′ = found ss ranked (reverseComplement read) limit way′ r′ d d′ s′ a′ e′ in
+    record {
+      state = ap (λ (x : Row). x .state) (sym (f .1)) ∙ by-test (ltb limit (length gs)) (λ t. rw (number-turned ss read, t)) (λ t. rw (number-turned ss read, t)) ∙ ap (λ (x : Row). x .state) (f′ .1);
+      groups =
+          search-groups ss ranked read limit way r b b′ s a e ∙ by-test (ltb limit (length gs)) (λ t. rw (number-turned ss read, t)) (λ t. rw (number-turned ss read, t) (sym (number-turned ss read)))
+          ∙ sym (search-groups ss ranked (reverseComplement read) limit way′ r′ d d′ s′ a′ e′);
+      rows = search-rows ss ranked (reverseComplement read) limit way′ r′ d d′ s′ a′ e′ ∙ ap₂ (λ n l. entriesOf ranked n l) (length-reverse-complement read) (listed-turned ss read limit);
+    }
+
+-- ---- and for map
+
+module _ (q : ℕ) (c : Catalogue) (ks rs os read : List ℕ) (limit : ℕ) (r : MapAnswer) (b b′ : List ℕ) (m : MapsTo q c ks rs os read limit r b b′) (a : Row) (told : answerOf r ≡ accepted a) where
+  -- an accepted answer of `map` is that of the search by index
+  map-searched : SearchAnswered (byIndex q) (mappedSequences c) (suppliedPlaces c) read limit r b b′
+  unfolding mapRefusal
+  map-searched =
+      let z = none q c ks rs os read limit r b b′ m a told .0 in
+      let y = none-first (indexRefusal q c ks rs os) _ z in
+      let x : rankedRefusal (mappedSequences c) read limit (entryCount b) ≡ 0 = rw y at z in
+      let v = none-first (readRefusal read limit) _ x in
+      rw (y, v) at m
+
+-- a read and the read turned round, both accepted
+pub map-turned : (q : ℕ) (c : Catalogue) (ks rs os read : List ℕ) (limit : ℕ) (r r′ : MapAnswer) (b b′ d d′ : List ℕ)
+    → MapsTo q c ks rs os read limit r b b′ → MapsTo q c ks rs os (reverseComplement read) limit r′ d d′
+    → (a a′ : Row) → answerOf r ≡ accepted a → answerOf r′ ≡ accepted a′ → TurnedAnswer (suppliedPlaces c) (length read) limit (groups (mappedSequences c) read) a a′ d′
+map-turned q c ks rs os read limit r r′ b b′ d d′ m m′ a a′ e e′ =
+    search-turned (mappedSequences c) (suppliedPlaces c) read limit (byIndex q) (byIndex q) r r′ b b′ d d′
+    (map-searched q c ks rs os read limit r b b′ m a e) (map-searched q c ks rs os (reverseComplement read) limit r′ d d′ m′ a′ e′) a a′ e e′
+
+-- ---- refusals of a read turned round
 
 base-complement : (b : ℕ) → isCapital b ≡ true → isCapital (complementOf b) ≡ true
 unfolding isCapital complementOf
@@ -175,22 +199,7 @@ capitals-turned bs = every-reverse isCapital (map complementOf bs) ∙ go bs
     go [] = refl
     go (b ∷ l) = ap₂ {C = Bool} (λ x y. x && y) (same-test (λ t. rw (complement-twice b) at (base-complement (complementOf b) t)) (base-complement b)) (go l)
 
-module _ (q : ℕ) (c : Catalogue) (ks rs os read : List ℕ) (limit : ℕ) (r r′ : MapAnswer) (b b′ d d′ : List ℕ) where
-  number-turned : length (groups (mappedSequences c) read) ≡ length (groups (mappedSequences c) (reverseComplement read))
-  number-turned = rw (groups-turned, length-sort, length-map)
-
-  refusal-turned : (entries : ℕ) → mapRefusal q c ks rs os read limit entries ≡ mapRefusal q c ks rs os (reverseComplement read) limit entries
-  unfolding mapRefusal readRefusal
-  refusal-turned entries = rw (length-reverse-complement, capitals-turned, number-turned)
-
-  -- a read turned round is answered as the read, and its entries are those of the same groups on the other strands
-  pub turned-answer : entryCount b ≡ entryCount d → MapsTo q c ks rs os read limit r b b′ → MapsTo q c ks rs os (reverseComplement read) limit r′ d d′ → TurnedAnswer c read limit r r′ d d′
-  turned-answer e m m′ =
-      let ss : List (List ℕ) = mappedSequences c in
-      let o = outcome-same limit (groups ss read) (groups ss (reverseComplement read)) _ _ r r′ number-turned _ _ (ap (mapRefusal q c ks rs os read limit) e ∙ refusal-turned (entryCount d)) (m .answer) (m′ .answer) in
-      record {
-        refusal = ap (λ t. t .0) o;
-        state = ap (λ t. t .1) o;
-        groups = ap (λ t. t .2) o;
-        entries = rw (ap (λ t. t .0) o, ← groups-turned ss read) (rw length-reverse-complement at (entries-by q c ks rs os (reverseComplement read) limit r′ d d′ m′));
-      }
+-- with as many entries it is refused by the same number
+pub refusal-turned : (q : ℕ) (c : Catalogue) (ks rs os read : List ℕ) (limit entries : ℕ) → mapRefusal q c ks rs os (reverseComplement read) limit entries ≡ mapRefusal q c ks rs os read limit entries
+unfolding mapRefusal readRefusal
+refusal-turned q c ks rs os read limit entries = rw (length-reverse-complement, capitals-turned, number-turned (mappedSequences c) read)

@@ -1,3 +1,4 @@
 pub mod Mapping
+pub mod Matching
 pub mod Laws
 pub mod Board

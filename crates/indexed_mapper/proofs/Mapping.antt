@@ -33,13 +33,13 @@ use Rattle.postings.proofs.Planning.{plan-right, no-refusal, ranked-mapped, tes
 use Rattle.places.specs.Place.{Place, maxRead, folded, groups}
 use Rattle.scan.specs.Entries.{entryCount}
 use Rattle.search.specs.Bounds.{lengthRight, limitRight}
-use Rattle.search.specs.Work.{work}
-use Rattle.search.specs.Answer.{Answered}
+use Rattle.search.specs.Work.{byIndex}
+use Rattle.search.specs.Answer.{roomRefusal, SearchAnswered}
 use Rattle.search.specs.Steps.{IndexSearchable, Mappable}
 use Rattle.search.specs.declared.answer.MappingWork.{MappingWork}
 use Rattle.search.specs.declared.answer.MapAnswer.{MapAnswer}
 use Rattle.search.specs.declared.answer.MapAnswer.the-variants as answers
-use Rattle.indexed_mapper.specs.Map.{readRefusal, rankedRefusal, mapRefusal, suppliedPlaces, IndexMapped, MapsTo}
+use Rattle.indexed_mapper.specs.Map.{readRefusal, rankedRefusal, mapRefusal, suppliedPlaces, RankedAnswered, ReadMapped, IndexMapped, MapsTo}
 
 -- ---- refusals of a read and a limit
 
@@ -63,7 +63,7 @@ module _ (read : List ℕ) (limit : ℕ) where
       read-accepted e = rw (short, proper, e)
 
   -- each number is below 10
-  pub read-below : readRefusal read limit < 10
+  read-below : readRefusal read limit < 10
   unfolding readRefusal
   read-below =
       by-test (lengthRight read)
@@ -120,27 +120,28 @@ searchable q bases ends ranked ks rs os read limit m z =
       indexed = m .indexed;
     }
 
--- ---- answers of a refusal
+-- ---- answers for ranked sequences
 
-module _ (ranked : List ℕ) (k limit : ℕ) (gs : List Place) (w : MappingWork) (b : List ℕ) where
+module _ (q : ℕ) (ss : List (List ℕ)) (ranked read : List ℕ) (limit : ℕ) (b : List ℕ) where
   -- refused before a search, with nothing touched
-  refused-as : (n refusal : ℕ) → n ≡ refusal → (n ≡ 0 → ⊥) → n < 10 → Answered refusal ranked k limit gs w (answers.Refused n) b b
+  refused-as : (n refusal : ℕ) → n ≡ refusal → (n ≡ 0 → ⊥) → n < 10 → RankedAnswered refusal q ss ranked read limit (answers.Refused n) b b
   refused-as zero refusal e ne h = absurd (ne refl)
   refused-as (suc n) refusal e ne h = rw (← e) (record { answer = refl; entries = rw (ne-eqb (suc n) 10 (λ z. omega arith)) refl })
 
-  module _ (t : Bool) (rest : ℕ) where
-    pub index-refused : t ≡ false → Answered (unless t 6 orElse rest) ranked k limit gs w (answers.Refused 6) b b
-    index-refused e = refused-as 6 (unless t 6 orElse rest) (rw e) (λ z. omega arith) (omega arith)
+  pub read-refused : (n : ℕ) → n ≡ readRefusal read limit → (n ≡ 0 → ⊥) → ReadMapped q ss ranked read limit (answers.Refused n) b b
+  read-refused n e ne =
+      let room : ℕ = roomRefusal (entryCount b) limit (length (groups ss read)) in
+      refused-as n (rankedRefusal ss read limit (entryCount b)) (first-stands n room ne ∙ ap (λ m. m orElse room) e) ne (omega (arith, read-below read limit))
 
-    pub index-right : t ≡ true → (r : MapAnswer) (b′ : List ℕ) → Answered rest ranked k limit gs w r b b′ → Answered (unless t 6 orElse rest) ranked k limit gs w r b b′
+  pub read-searched : readRefusal read limit ≡ 0 → (r : MapAnswer) (b′ : List ℕ) → SearchAnswered (byIndex q) ss ranked read limit r b b′ → ReadMapped q ss ranked read limit r b b′
+  read-searched e r b′ a = rw e a
+
+  module _ (ks rs os : List ℕ) where
+    pub index-refused : columnsOf (indexOf q ss) ks rs os ≡ false → IndexMapped q ss ranked ks rs os read limit (answers.Refused 6) b b
+    index-refused e = refused-as 6 (unless (columnsOf (indexOf q ss) ks rs os) 6 orElse rankedRefusal ss read limit (entryCount b)) (rw e) (λ z. omega arith) (omega arith)
+
+    pub index-right : columnsOf (indexOf q ss) ks rs os ≡ true → (r : MapAnswer) (b′ : List ℕ) → ReadMapped q ss ranked read limit r b b′ → IndexMapped q ss ranked ks rs os read limit r b b′
     index-right e r b′ a = rw e a
-
-  module _ (read-refusal room : ℕ) where
-    pub read-refused : (n : ℕ) → n ≡ read-refusal → (n ≡ 0 → ⊥) → n < 10 → Answered (read-refusal orElse room) ranked k limit gs w (answers.Refused n) b b
-    read-refused n f ne h = refused-as n (read-refusal orElse room) (rw (← f) (first-stands n room ne)) ne h
-
-    pub not-refused : read-refusal ≡ 0 → (r : MapAnswer) (b′ : List ℕ) → Answered room ranked k limit gs w r b b′ → Answered (read-refusal orElse room) ranked k limit gs w r b b′
-    not-refused f r b′ a = rw f a
 
 -- ---- from the ranking of a catalogue
 
@@ -162,7 +163,7 @@ module _ (q : ℕ) (c : Catalogue) (r : Ranking) (buffer : List ℕ) (p : PlanRa
     map-refused n e =
         let ne : n ≡ 0 → ⊥ = rw e at (p .ranks) in
         let rest : ℕ = rankedRefusal (mappedSequences c) read limit (entryCount b) in
-        refused-as (suppliedPlaces c) (length read) limit (groups (mappedSequences c) read) (work q (mappedSequences c) read limit) b n (indexRefusal q c ks rs os orElse rest)
+        refused-as q (mappedSequences c) (suppliedPlaces c) read limit b n (indexRefusal q c ks rs os orElse rest)
         (first-stands n rest ne ∙ ap (λ m. m orElse rest) (test-refused q c r buffer p n e ks rs os)) ne
         (omega (arith, ap rankingRefusal e, p .refusal, plan-below q c))
 

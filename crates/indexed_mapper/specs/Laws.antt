@@ -1,31 +1,28 @@
--- What is proved of answers beyond the promise of each call.
+-- Two searches held against each other.
 use mathlib.Core.Path.{_≡_}
 use mathlib.Core.List.{List, map}
-use Prim.Native.Nat.{ℕ, _≤_}
-use lib.ListN.{length}
+use Prim.Native.Nat.{ℕ, _*_, _≤_}
+use lib.ListN.{length, take}
 use Rattle.lists.specs.Sort.{sort}
-use Rattle.catalogue.specs.Catalogue.{Catalogue}
-use Rattle.index.specs.Index.{mappedSequences}
-use Rattle.places.specs.Place.{before, groups, swapped}
+use Rattle.places.specs.Place.{Place, before, swapped}
 use Rattle.scan.specs.Entries.{entriesOf}
-use Rattle.search.specs.Answer.{answerOf, listed, entriesAfter, suppliedPlaces}
-use Rattle.search.specs.declared.answer.MapAnswer.{MapAnswer}
+use Rattle.search.specs.Answer.{Row, listed}
 
--- every group is listed: neither refused nor indeterminate
-abbrev pub Complete : MapAnswer → Type 0
-Complete r = (answerOf r .refusal ≡ 0) × (answerOf r .state ≡ 2 → ⊥)
+-- what the search by index answers and leaves in its entries, and the same of the search at every start: the same state,
+-- number of groups and listed groups, and no more comparisons
+pub record SearchesAgree (a b : Row) (entries entries′ : List ℕ) : Type 0 where
+  pub state : a .state ≡ b .state
+  pub groups : a .groups ≡ b .groups
+  pub rows : take (4 * a .groups) entries ≡ take (4 * b .groups) entries′
+  pub fewer : a .work .comparisons ≤ b .work .comparisons
 
--- the search by index answered r and set the entries b to b′, the one at every start r′ and d to d′
-pub record SearchesAgree (r r′ : MapAnswer) (b b′ d d′ : List ℕ) : Type 0 where
-  pub refusal : answerOf r .refusal ≡ answerOf r′ .refusal
-  pub state : answerOf r .state ≡ answerOf r′ .state
-  pub groups : answerOf r .groups ≡ answerOf r′ .groups
-  pub fewer : answerOf r .work .comparisons ≤ answerOf r′ .work .comparisons
-  pub entries : b ≡ d → b′ ≡ d′
+-- groups on the other strands, put back in order
+abbrev pub turnedGroups : List Place → List Place
+turnedGroups gs = sort before (map swapped gs)
 
--- r answers a read; r′ answers the read turned round, and the entries d were set to d′
-pub record TurnedAnswer (c : Catalogue) (read : List ℕ) (limit : ℕ) (r r′ : MapAnswer) (d d′ : List ℕ) : Type 0 where
-  pub refusal : answerOf r .refusal ≡ answerOf r′ .refusal
-  pub state : answerOf r .state ≡ answerOf r′ .state
-  pub entries : d′ ≡ entriesAfter (answerOf r .refusal) (entriesOf (suppliedPlaces c) (length read) (listed limit (sort before (map swapped (groups (mappedSequences c) read))))) d
-  pub groups : answerOf r .groups ≡ answerOf r′ .groups
+-- what a search answers for a read of n bases with its groups, and for the read turned round, with what is left in the entries then: the same state and
+-- number of groups, and the listed groups with their strands exchanged
+pub record TurnedAnswer (ranked : List ℕ) (n limit : ℕ) (gs : List Place) (a b : Row) (entries′ : List ℕ) : Type 0 where
+  pub state : a .state ≡ b .state
+  pub groups : a .groups ≡ b .groups
+  pub rows : take (4 * b .groups) entries′ ≡ entriesOf ranked n (turnedGroups (listed limit gs))

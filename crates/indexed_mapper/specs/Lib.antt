@@ -1,3 +1,4 @@
 pub mod Map
+pub mod Match
 pub mod Board
 pub mod Laws

@@ -48,9 +48,10 @@ same-length c = search needs
 
 returns-2 : tie.Need-returns-2
 returns-2 c =
+    let a = c .before .before .before .before .before .before .before .before .before .before .before .before .before .before .before .before .before .before .before .before .before .args in
     let r = c .before .before .before .before .before .before .before .before .before .rank-checked in
     let g = c .before .before .before .before .before .before .ranking2 .given in
-    map-done _ _ _ _ (r .ensures) _ _ _ _ _ _ _ (g .1) _ _ (c .before .before .map-ranked .ensures)
+    map-done _ _ _ _ (r .ensures) (a .keys .now) (a .ranks .now) (a .positions .now) (a .read .now) (a .limit) (a .entries .now) _ (g .1) _ _ (c .before .before .map-ranked .ensures)
 
 pub map-spec : {M : Type 1} → statement M
 map-spec =

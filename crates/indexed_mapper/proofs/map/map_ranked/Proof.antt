@@ -2,6 +2,7 @@
 -- Assumes nothing.
 use mathlib.Core.Path.{sym, _∙_}
 use borrow.Author.Tests.{not-true, not-false}
+use Rattle.index.specs.Index.{rankedSequences}
 use Rattle.indexed_mapper.proofs.Mapping.{mappable, index-refused, index-right}
 use borrow.Author.Needs.{needs}
 use Rattle.indexed_mapper.proofs.map.map_ranked.Statement.{statement}
@@ -11,7 +12,9 @@ is-index-requires : tie.Need-is-index-requires
 is-index-requires c κs = search needs
 
 returns : tie.Need-returns
-returns c = index-refused _ _ _ _ _ _ _ _ (sym (c .before .is-index .ensures) ∙ not-true _ (c .if1 .taken))
+returns c =
+    let a = c .before .before .before .before .before .before .before .before .before .before .args in
+    index-refused (a .q) (rankedSequences (a .bases .now) (a .ends .now) (a .ranked .now)) (a .ranked .now) (a .read .now) (a .limit) (a .entries .now) (a .keys .now) (a .ranks .now) (a .positions .now) (sym (c .before .is-index .ensures) ∙ not-true _ (c .if1 .taken))
 
 map-read-requires : tie.Need-map-read-requires
 map-read-requires c κs =
@@ -22,7 +25,9 @@ same-length : tie.Need-same-length
 same-length c = search needs
 
 returns-2 : tie.Need-returns-2
-returns-2 c = index-right _ _ _ _ _ _ _ _ (sym (c .before .before .before .before .before .is-index .ensures) ∙ not-false _ (c .before .before .before .before .if1 .left)) _ _ (c .before .before .map-read .ensures)
+returns-2 c =
+    let a = c .before .before .before .before .before .before .before .before .before .before .before .before .before .before .args in
+    index-right (a .q) (rankedSequences (a .bases .now) (a .ends .now) (a .ranked .now)) (a .ranked .now) (a .read .now) (a .limit) (a .entries .now) (a .keys .now) (a .ranks .now) (a .positions .now) (sym (c .before .before .before .before .before .is-index .ensures) ∙ not-false _ (c .before .before .before .before .if1 .left)) _ _ (c .before .before .map-read .ensures)
 
 pub map-ranked-spec : {M : Type 1} → statement M
 map-ranked-spec =

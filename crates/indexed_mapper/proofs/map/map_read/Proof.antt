@@ -1,8 +1,8 @@
 -- `indexed_mapper::map::map_read` meets its contract: the refusal of the read or the limit, or the search.
 -- Assumes nothing.
 use mathlib.Core.Path.{sym, _∙_}
-use native.Mathlib.Omega.{arith}
-use Rattle.indexed_mapper.proofs.Mapping.{read-below, searchable, read-refused, not-refused}
+use Rattle.index.specs.Index.{rankedSequences}
+use Rattle.indexed_mapper.proofs.Mapping.{searchable, read-refused, read-searched}
 use borrow.Author.Needs.{needs}
 use Rattle.indexed_mapper.proofs.map.map_read.Statement.{statement}
 use Rattle.indexed_mapper.proofs.map.map_read.Tie as tie
@@ -13,7 +13,7 @@ check-read-requires c κs = search needs
 returns : tie.Need-returns
 returns c =
     let a = c .before .before .before .before .before .before .before .before .before .before .args in
-    read-refused _ _ _ _ _ _ _ _ _ (c .before .check-read .ensures) (c .if1 .taken) (omega (arith, c .before .check-read .ensures, read-below (a .read .now) (a .limit)))
+    read-refused (a .q) (rankedSequences (a .bases .now) (a .ends .now) (a .ranked .now)) (a .ranked .now) (a .read .now) (a .limit) (a .entries .now) _ (c .before .check-read .ensures) (c .if1 .taken)
 
 search-requires : tie.Need-search-requires
 search-requires c κs =
@@ -24,7 +24,9 @@ same-length : tie.Need-same-length
 same-length c = search needs
 
 returns-2 : tie.Need-returns-2
-returns-2 c = not-refused _ _ _ _ _ _ _ _ (sym (c .before .before .before .before .before .check-read .ensures) ∙ c .before .before .before .before .if1 .left) _ _ (c .before .before .search .ensures)
+returns-2 c =
+    let a = c .before .before .before .before .before .before .before .before .before .before .before .before .before .before .args in
+    read-searched (a .q) (rankedSequences (a .bases .now) (a .ends .now) (a .ranked .now)) (a .ranked .now) (a .read .now) (a .limit) (a .entries .now) (sym (c .before .before .before .before .before .check-read .ensures) ∙ c .before .before .before .before .if1 .left) _ _ (c .before .before .search .ensures)
 
 pub map-read-spec : {M : Type 1} → statement M
 map-read-spec =

@@ -1,0 +1,58 @@
+-- What an accepted answer lists, said of targets as they are supplied (REFERENCE.md, "Mapping").
+use mathlib.Core.Path.{_≡_}
+use mathlib.Core.Bool.{Bool, true, cond}
+use mathlib.Core.Logic.{_↔_}
+use mathlib.Core.List.{List, [], _∷_, _++_}
+use Prim.Native.Nat.{ℕ, zero, suc, _+_, _≤_, _<_}
+use lib.ListN.{length}
+use lib.Dec.{eqb}
+use Rattle.lists.specs.Member.{_∈_}
+use Rattle.lists.specs.Order.{Ascending}
+use Rattle.lists.specs.Triple.{Triple, lexicographic}
+use Rattle.lists.specs.Cut.{window}
+use Rattle.bases.specs.Read.{oriented}
+use Rattle.catalogue.specs.Catalogue.{Catalogue, Target, targets, isMapped}
+use Rattle.seeds.specs.Seeds.{placed}
+use Rattle.places.specs.Place.{folded}
+use Rattle.scan.specs.Entries.{entryOf, cleared}
+use Rattle.search.specs.Answer.{Row}
+use Rattle.indexed_mapper.specs.Map.{suppliedPlaces}
+
+-- the read matches at a start and on a strand of the linear target supplied at a place: it ends within the target, and the
+-- target's bases from the start on are the read's, in upper case and as it lies on the strand
+pub record Match (c : Catalogue) (read : List ℕ) (supplied start strand : ℕ) : Type 0 where
+  pub target : Target
+  pub in-catalogue : target ∈ targets c
+  pub at-place : target .place ≡ supplied
+  pub linear : isMapped target ≡ true
+  pub inside : start + length read ≤ length (target .bases)
+  pub stranded : strand < 2
+  pub equal : window (target .bases) start (length read) ≡ oriented strand (folded read)
+
+-- how many numbers stand before the first x
+abbrev pub placeOf : ℕ → List ℕ → ℕ
+placeOf x [] = 0
+placeOf x (y ∷ ys) = cond (eqb x y) 0 (suc (placeOf x ys))
+
+-- the rank of the target supplied at a place
+abbrev pub rankOf : Catalogue → ℕ → ℕ
+rankOf c supplied = placeOf supplied (suppliedPlaces c)
+
+-- (supplied place, start, strand), by rank, start, strand
+abbrev pub byRank : Catalogue → Triple → Triple → Bool
+byRank c x y = lexicographic (rankOf c (x .0), x .1, x .2) (rankOf c (y .0), y .1, y .2)
+
+-- the entries of matches of a read of n bases
+abbrev pub matchEntries : ℕ → List Triple → List ℕ
+matchEntries n [] = []
+matchEntries n (x ∷ xs) = entryOf (x .0) (x .1) (x .1 + n) (x .2) ++ matchEntries n xs
+
+-- an accepted answer, held against all matches of the read, each once and ascending: it is indeterminate exactly if there are
+-- more than the limit, and otherwise they are what is listed, in front of zeros
+pub record Lists (c : Catalogue) (read : List ℕ) (limit : ℕ) (answer : Row) (buffer buffer′ : List ℕ) : Type 0 where
+  pub matches : List Triple
+  pub exactly : (supplied start strand : ℕ) → ((supplied, start, strand) ∈ matches) ↔ Match c read supplied start strand
+  pub ascending : Ascending (byRank c) matches
+  pub indeterminate : (answer .state ≡ 2) ↔ (limit < length matches)
+  pub number : (answer .state ≡ 2 → ⊥) → answer .groups ≡ length matches
+  pub entries : (answer .state ≡ 2 → ⊥) → buffer′ ≡ placed 0 (matchEntries (length read) matches) (cleared buffer)
