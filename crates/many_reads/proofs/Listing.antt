@@ -8,11 +8,12 @@ use native.Mathlib.Omega.{arith}
 use native.Mathlib.Nat.{mul-zero, mul-assoc}
 use lib.ListN.{length, getD, take, drop}
 use lib.Dec.{eqb}
-use borrow.Author.Tests.{le-leb, lt-leb, eq-eqb, ne-eqb, eqb-true, eqb-false}
+use borrow.Author.Tests.{eq-eqb, ne-eqb, eqb-true, eqb-false}
 use Rattle.lists.specs.Cut.{window, cut, endsWithin}
 use Rattle.lists.proofs.Cases.{by-test, and-true}
 use Rattle.lists.proofs.Cut.{length-cut}
 use Rattle.promises.specs.Refusal.{unless, _orElse_}
+use Rattle.promises.proofs.Refusing.{first-stands, none-first, passed}
 use Rattle.catalogue.specs.Catalogue.{Catalogue}
 use Rattle.catalogue.specs.Ranking.{RanksOf}
 use Rattle.catalogue.specs.declared.ranks.Ranking.{Ranking}
@@ -21,34 +22,32 @@ use Rattle.index.specs.Index.{index, indexOf, mappedSequences, rankedSequences,
 use Rattle.postings.specs.Answers.{PlanRanked}
 use Rattle.postings.proofs.Planning.{no-refusal, ranked-mapped, test-refused}
 use Rattle.places.specs.Place.{groups}
-use Rattle.scan.specs.Entries.{entriesOf, entryCount}
+use Rattle.scan.specs.Entries.{entryCount}
 use Rattle.search.specs.Work.{work}
-use Rattle.search.specs.Answer.{answerUnless, accepted, listed, entriesAfter, maxLimit, limitRight, readRefusal, roomRefusal, mapRefusal, mapAnswer, mapEntries, suppliedPlaces}
-use Rattle.many_reads.specs.Reads.{rowOf, readsRight, listRefusal, readsRefusal, RankedMapped, RankedReads, MapsReads, ReadsMapped, readAnswer, readEntries, widthOf}
+use Rattle.search.specs.Bounds.{limitRight}
+use Rattle.search.specs.Answer.{readAnswer, readEntries}
+use Rattle.indexed_mapper.specs.Map.{rankedRefusal, mapRefusal, mapAnswer, mapEntries, suppliedPlaces}
+use Rattle.many_reads.specs.Reads.{rowNumbers, readsRight, listRefusal, readsRefusal, RankedMapped, RankedReads, MapsReads, ReadsMapped, rankedAnswer, rankedEntries, widthOf}
 
 -- ---- refusals of a limit and a list of reads
 
 module _ (limit : ℕ) (bytes ends : List ℕ) (rows : ℕ) where
-  pub limit-none : limit < 1 → 9 ≡ listRefusal limit bytes ends rows
-  limit-none h = rw (lt-leb 1 limit h)
+  pub limit-out : limitRight limit ≡ false → 9 ≡ listRefusal limit bytes ends rows
+  limit-out e = rw e
 
-  module _ (some : 1 ≤ limit) where
-    pub limit-past : maxLimit < limit → 9 ≡ listRefusal limit bytes ends rows
-    limit-past h = rw (le-leb 1 limit some, lt-leb limit maxLimit h)
+  module _ (limited : limitRight limit ≡ true) where
+    pub ends-wrong : endsWithin 0 (length bytes) ends ≡ false → 25 ≡ listRefusal limit bytes ends rows
+    ends-wrong e = rw (limited, e)
 
-    module _ (most : limit ≤ maxLimit) where
-      pub ends-wrong : endsWithin 0 (length bytes) ends ≡ false → 25 ≡ listRefusal limit bytes ends rows
-      ends-wrong e = rw (le-leb 1 limit some, le-leb limit maxLimit most, e)
+    module _ (right : endsWithin 0 (length bytes) ends ≡ true) where
+      pub rows-broken : (rows % 8 ≡ 0 → ⊥) → 25 ≡ listRefusal limit bytes ends rows
+      rows-broken ne = rw (limited, right, ne-eqb rows (8 * length ends) (λ e. ne (omega arith)))
 
-      module _ (right : endsWithin 0 (length bytes) ends ≡ true) where
-        pub rows-broken : (rows % 8 ≡ 0 → ⊥) → 25 ≡ listRefusal limit bytes ends rows
-        rows-broken ne = rw (le-leb 1 limit some, le-leb limit maxLimit most, right, ne-eqb rows (8 * length ends) (λ e. ne (omega arith)))
+      pub rows-other : (rows / 8 ≡ length ends → ⊥) → 25 ≡ listRefusal limit bytes ends rows
+      rows-other ne = rw (limited, right, ne-eqb rows (8 * length ends) (λ e. ne (omega arith)))
 
-        pub rows-other : (rows / 8 ≡ length ends → ⊥) → 25 ≡ listRefusal limit bytes ends rows
-        rows-other ne = rw (le-leb 1 limit some, le-leb limit maxLimit most, right, ne-eqb rows (8 * length ends) (λ e. ne (omega arith)))
-
-        pub list-right : rows % 8 ≡ 0 → rows / 8 ≡ length ends → 0 ≡ listRefusal limit bytes ends rows
-        list-right z e = rw (le-leb 1 limit some, le-leb limit maxLimit most, right, eq-eqb rows (8 * length ends) (omega arith))
+      pub list-right : rows % 8 ≡ 0 → rows / 8 ≡ length ends → 0 ≡ listRefusal limit bytes ends rows
+      list-right z e = rw (limited, right, eq-eqb rows (8 * length ends) (omega arith))
 
   -- a list that is not refused
   pub list-fits : listRefusal limit bytes ends rows ≡ 0 → (endsWithin 0 (length bytes) ends ≡ true) × (rows ≡ 8 * length ends)
@@ -97,14 +96,9 @@ module _ (q : ℕ) (ss : List (List ℕ)) (ranked ks rs os : List ℕ) (limit : 
 
 -- ---- from the ranking of a catalogue
 
--- the first refusal stands
-first-stands : (n m : ℕ) → (n ≡ 0 → ⊥) → n ≡ (n orElse m)
-first-stands zero m ne = absurd (ne refl)
-first-stands (suc n) m ne = refl
-
 -- an index that is not refused
 held-index : (t : Bool) (n : ℕ) → (unless t 6 orElse n) ≡ 0 → t ≡ true
-held-index t n z = by-test t (λ e. e) (λ e. absurd (omega (arith, rw e at z)))
+held-index t n z = passed t 6 (λ e. omega arith) (none-first (unless t 6) n z)
 
 module _ (q : ℕ) (c : Catalogue) (r : Ranking) (buffer : List ℕ) (p : PlanRanked q c r buffer) (ks rs os : List ℕ) (limit : ℕ) (bytes ends rows entries : List ℕ) where
   pub reads-refused : (n : ℕ) → r ≡ Refused n → MapsReads q c ks rs os limit bytes ends n rows entries rows entries
@@ -119,7 +113,7 @@ module _ (q : ℕ) (c : Catalogue) (r : Ranking) (buffer : List ℕ) (p : PlanRa
       }
 
   -- what `map` is refused by where the index is held
-  read-refused : indexRefusal q c ks rs os ≡ 0 → (read : List ℕ) (n : ℕ) → (readRefusal read limit orElse roomRefusal n limit (length (groups (mappedSequences c) read))) ≡ mapRefusal q c ks rs os read limit n
+  read-refused : indexRefusal q c ks rs os ≡ 0 → (read : List ℕ) (n : ℕ) → rankedRefusal (mappedSequences c) read limit n ≡ mapRefusal q c ks rs os read limit n
   unfolding mapRefusal
   read-refused z read n = rw z refl
 
@@ -150,8 +144,8 @@ module _ (q : ℕ) (c : Catalogue) (r : Ranking) (buffer : List ℕ) (p : PlanRa
               rest = m .rest;
             }
           where
-            answer : (read : List ℕ) → rowOf (readAnswer q (mappedSequences c) read limit (entryCount entries / length ends)) ≡ rowOf (mapAnswer q c ks rs os read limit (entryCount entries / length ends))
-            answer read = ap (λ n. rowOf (answerUnless n (accepted limit (groups (mappedSequences c) read) (work q (mappedSequences c) read limit)))) (read-refused (held z) read (entryCount entries / length ends))
+            answer : (read : List ℕ) → rowNumbers (rankedAnswer q (mappedSequences c) read limit (entryCount entries / length ends)) ≡ rowNumbers (mapAnswer q c ks rs os read limit (entryCount entries / length ends))
+            answer read = ap (λ n. rowNumbers (readAnswer n limit (groups (mappedSequences c) read) (work q (mappedSequences c) read limit))) (read-refused (held z) read (entryCount entries / length ends))
 
-            after : (read part : List ℕ) → readEntries (mappedSequences c) (suppliedPlaces c) read limit part ≡ mapEntries q c ks rs os read limit part
-            after read part = ap (λ n. entriesAfter n (entriesOf (suppliedPlaces c) (length read) (listed limit (groups (mappedSequences c) read))) part) (read-refused (held z) read (entryCount part))
+            after : (read part : List ℕ) → rankedEntries (mappedSequences c) (suppliedPlaces c) read limit part ≡ mapEntries q c ks rs os read limit part
+            after read part = ap (λ n. readEntries n (suppliedPlaces c) (length read) limit (groups (mappedSequences c) read) part) (read-refused (held z) read (entryCount part))

@@ -5,7 +5,7 @@ use mathlib.Core.List.{List, [], _∷_, _++_, append-assoc}
 use Prim.Native.Nat.{ℕ, zero, suc, _+_, _-_, _*_, _<_, _≤_}
 use native.Mathlib.Omega.{arith}
 use native.Mathlib.Nat.{mul-suc, mul-le-mul-left}
-use lib.ListN.{length, getD, take, drop, replicate, length-append, length-replicate}
+use lib.ListN.{length, getD, take, drop, length-append, take-append-drop}
 use lib.Seq.{length-take-le, take-at, drop-at, drop-drop, take-take}
 use lib.Dec.{ltb, eqb}
 use borrow.Author.Tests.{ltb-true, ltb-false}
@@ -14,16 +14,21 @@ use Rattle.lists.specs.Cut.{window, cut}
 use Rattle.lists.proofs.Cases.{by-test}
 use Rattle.lists.proofs.Cut.{length-window, length-cut}
 use Rattle.lists.proofs.Places.{drop-take}
-use Rattle.promises.specs.Refusal.{_orElse_}
+use Rattle.promises.specs.Refusal.{Outcome, refused, accepted}
+use Rattle.promises.proofs.Refusing.{none-second}
 use Rattle.seeds.specs.Seeds.{placed}
 use Rattle.seeds.proofs.Storing.{length-placed, placed-placed}
 use Rattle.places.specs.Place.{Place, groups}
 use Rattle.scan.specs.Entries.{entriesOf, entryCount, cleared}
 use Rattle.scan.proofs.Going.{length-entries}
-use Rattle.search.specs.Work.{work}
-use Rattle.search.specs.Answer.{Answer, Answered, answerOf, entriesAfter, listed, readRefusal, roomRefusal}
+use Rattle.search.specs.Work.{byIndex}
+use Rattle.search.specs.Answer.{Row, answerOf, roomRefusal, PartSearched}
 use Rattle.search.specs.declared.answer.MapAnswer.{MapAnswer}
-use Rattle.many_reads.specs.Reads.{rowOf, ReadsMapped, ShareMapped, RankedMapped, readAnswer, readEntries}
+use Rattle.search.specs.declared.answer.MapAnswer.the-variants as answers
+use Rattle.search.proofs.Parts.{read-entries-length}
+use Rattle.indexed_mapper.specs.Map.{readRefusal, rankedRefusal}
+use Rattle.indexed_mapper.proofs.Mapping.{read-refused}
+use Rattle.many_reads.specs.Reads.{rowNumbers, ReadsMapped, ShareMapped, RankedMapped, rankedAnswer, rankedEntries}
 
 -- ---- products
 
@@ -66,71 +71,53 @@ module _ (at : ℕ) (xs b : List ℕ) (h : at + length xs ≤ length b) where
 
 -- ---- rows
 
+row-long : (r : Outcome Row) → length (rowNumbers r) ≡ 8
+row-long (refused n) = refl
+row-long (accepted a) = refl
+
 -- eight numbers, written four by four
 pub eight-put : (at : ℕ) (b b′ b″ : List ℕ) (n1 n2 n3 n4 n5 n6 n7 n8 : ℕ) → at + 8 ≤ length b → b′ ≡ placed at (n1 ∷ n2 ∷ n3 ∷ n4 ∷ []) b → b″ ≡ placed (at + 4) (n5 ∷ n6 ∷ n7 ∷ n8 ∷ []) b′ → b″ ≡ placed at (n1 ∷ n2 ∷ n3 ∷ n4 ∷ n5 ∷ n6 ∷ n7 ∷ n8 ∷ []) b
 eight-put at b b′ b″ n1 n2 n3 n4 n5 n6 n7 n8 h e f = f ∙ ap (placed (at + 4) (n5 ∷ n6 ∷ n7 ∷ n8 ∷ [])) e ∙ placed-placed at (n1 ∷ n2 ∷ n3 ∷ n4 ∷ []) b (n5 ∷ n6 ∷ n7 ∷ n8 ∷ []) (omega arith)
 
--- ---- the length of a share
+-- ---- a share
 
--- a part put back is a placed part
-part-back : (from width : ℕ) (b g : List ℕ) → from + width ≤ length b → length g ≡ width → putMid from width b g ≡ placed from g b
-part-back from width b g h l =
-    let e : drop width (drop from b) ≡ drop (from + length g) b = drop-drop width from b ∙ ap (λ k. drop (from + k) b) (sym l) in
-    ap (λ r. take from b ++ (g ++ r)) e ∙ sym (append-assoc (take from b) g (drop (from + length g) b))
-
-module _ (b : List ℕ) where
-  length-cleared : length (cleared b) ≡ length b
-  length-cleared = length-placed 0 (replicate (4 * entryCount b) 0) b (omega (arith, length-replicate {A = ℕ} (4 * entryCount b) 0))
-
-  after-length : (n : ℕ) (xs : List ℕ) → (n ≡ 0 → length xs ≤ length b) → length (entriesAfter n xs b) ≡ length b
-  after-length zero xs f = length-placed 0 xs (cleared b) (omega (arith, f refl, length-cleared)) ∙ length-cleared
-  after-length (suc n) xs f = by-test (eqb (suc n) 10) (λ e. rw e length-cleared) (λ e. rw e refl)
-
--- where there is no refusal the listed groups have room
-listed-room : (entries limit : ℕ) (gs : List Place) → roomRefusal entries limit (length gs) ≡ 0 → length (listed limit gs) ≤ entries
-listed-room entries limit gs z =
-    by-test (ltb limit (length gs))
-    (λ e. rw e (omega arith))
-    (λ e. rw e (by-test (ltb entries (length gs))
-    (λ f. by-test (ltb entries limit) (λ g. absurd (omega (arith, rw (f, g) at z))) (λ g. omega (arith, ltb-false limit (length gs) e, ltb-false entries limit g)))
-    (λ f. ltb-false entries (length gs) f)))
-
-second-none : (n m : ℕ) → (n orElse m) ≡ 0 → m ≡ 0
-second-none zero m z = z
-second-none (suc n) m z = absurd (omega arith)
+-- a part put where it was
+placed-self : (from width : ℕ) (b : List ℕ) → from + width ≤ length b → placed from (window b from width) b ≡ b
+placed-self from width b h =
+    ap (λ n. (take from b ++ window b from width) ++ drop (from + n) b) (length-window b from width h)
+    ∙ append-assoc (take from b) (window b from width) (drop (from + width) b)
+    ∙ ap (λ l. take from b ++ (window b from width ++ l)) (sym (drop-drop width from b))
+    ∙ ap (λ l. take from b ++ l) (take-append-drop width (drop from b))
+    ∙ take-append-drop from b
 
 -- a mapped read keeps the length of its share
-read-entries-length : (ss : List (List ℕ)) (ranked read : List ℕ) (limit : ℕ) (b : List ℕ) → length (readEntries ss ranked read limit b) ≡ length b
-read-entries-length ss ranked read limit b =
-    let gs = groups ss read in
-    after-length b (readRefusal read limit orElse roomRefusal (entryCount b) limit (length gs)) (entriesOf ranked (length read) (listed limit gs))
-    (λ z. let room = listed-room (entryCount b) limit gs (second-none (readRefusal read limit) (roomRefusal (entryCount b) limit (length gs)) z) in
-    omega (arith, room, length-entries ranked (length read) (listed limit gs)))
+share-length : (ss : List (List ℕ)) (ranked read : List ℕ) (limit : ℕ) (part : List ℕ) → length (rankedEntries ss ranked read limit part) ≡ length part
+share-length ss ranked read limit part =
+    read-entries-length (rankedRefusal ss read limit (entryCount part)) ranked (length read) limit (groups ss read) part
+    (none-second (readRefusal read limit) (roomRefusal (entryCount part) limit (length (groups ss read))))
 
--- a lent part of k numbers is back with the answer for a read
-pub part-mapped : (q : ℕ) (ss : List (List ℕ)) (ranked read : List ℕ) (limit from width : ℕ) (r : MapAnswer) (b : List ℕ) → from + width ≤ length b → (k : ℕ) → k ≡ width → (g : List ℕ)
-    → Answered (readRefusal read limit orElse roomRefusal (entryCount (window b from k)) limit (length (groups ss read))) ranked (length read) limit (groups ss read) (work q ss read limit) r (window b from k) g
-    → ShareMapped q ss ranked read limit from width r b (putMid from k b g)
-part-mapped q ss ranked read limit from width r b h k e g a =
-    let t : Answered (readRefusal read limit orElse roomRefusal (entryCount (window b from width)) limit (length (groups ss read))) ranked (length read) limit (groups ss read) (work q ss read limit) r (window b from width) g = rw e at a in
-    let l : length g ≡ width = ap length (t .entries) ∙ read-entries-length ss ranked read limit (window b from width) ∙ length-window b from width h in
-    record {
-      answer = t .answer;
-      share = ap (λ n. putMid from n b g) e ∙ part-back from width b g h l ∙ ap (λ x. placed from x b) (t .entries);
-    }
+module _ (q : ℕ) (ss : List (List ℕ)) (ranked read : List ℕ) (limit from width : ℕ) (b : List ℕ) where
+  -- refused before a search, with nothing touched
+  pub share-refused : from + width ≤ length b → (n : ℕ) → n ≡ readRefusal read limit → (n ≡ 0 → ⊥) → ShareMapped q ss ranked read limit from width (answers.Refused n) b b
+  share-refused h n e ne =
+      let r = read-refused q ss ranked read limit (window b from width) n e ne in
+      record { answer = r .answer; share = sym (placed-self from width b h) ∙ ap (λ l. placed from l b) (r .entries) }
+
+  pub share-searched : readRefusal read limit ≡ 0 → (r : MapAnswer) (b′ : List ℕ) → PartSearched (byIndex q) ss ranked read limit from width r b b′ → ShareMapped q ss ranked read limit from width r b b′
+  share-searched e r b′ s = record { answer = rw e (s .answer); share = rw e (s .part) }
 
 -- ---- reads mapped one after the other
 
 -- the first i reads have their rows and shares, and nothing behind their shares is touched
-pub record Shares (answer : List ℕ → Answer) (after : List ℕ → List ℕ → List ℕ) (reads : List (List ℕ)) (width : ℕ) (rows₀ entries₀ : List ℕ) (i : ℕ) (rows entries : List ℕ) : Type 0 where
+pub record Shares (answer : List ℕ → Outcome Row) (after : List ℕ → List ℕ → List ℕ) (reads : List (List ℕ)) (width : ℕ) (rows₀ entries₀ : List ℕ) (i : ℕ) (rows entries : List ℕ) : Type 0 where
   pub upto : i ≤ length reads
-  pub row : (j : ℕ) → j < i → window rows (8 * j) 8 ≡ rowOf (answer (getD reads j []))
+  pub row : (j : ℕ) → j < i → window rows (8 * j) 8 ≡ rowNumbers (answer (getD reads j []))
   pub share : (j : ℕ) → j < i → window entries (width * j) width ≡ after (getD reads j []) (window entries₀ (width * j) width)
   pub rest : drop (width * i) entries ≡ drop (width * i) entries₀
   pub rows-long : length rows ≡ length rows₀
   pub entries-long : length entries ≡ length entries₀
 
-module _ (answer : List ℕ → Answer) (after : List ℕ → List ℕ → List ℕ) (reads : List (List ℕ)) (width : ℕ) (rows₀ entries₀ : List ℕ) where
+module _ (answer : List ℕ → Outcome Row) (after : List ℕ → List ℕ → List ℕ) (reads : List (List ℕ)) (width : ℕ) (rows₀ entries₀ : List ℕ) where
   shares-none : Shares answer after reads width rows₀ entries₀ 0 rows₀ entries₀
   shares-none = record { upto = omega arith; row = λ j h. absurd (omega arith); share = λ j h. absurd (omega arith); rest = refl; rows-long = refl; entries-long = refl }
 
@@ -151,21 +138,24 @@ module _ (answer : List ℕ → Answer) (after : List ℕ → List ℕ → List 
       share-room : width * i + width ≤ length entries
       share-room = omega (arith, share-within width i (length reads) here, s .entries-long)
 
-      module _ (r : Answer) (part : List ℕ) (answered : r ≡ answer (getD reads i [])) (written : part ≡ after (getD reads i []) (window entries₀ (width * i) width)) (full : length part ≡ width) where
+      module _ (r : Outcome Row) (part : List ℕ) (answered : r ≡ answer (getD reads i [])) (written : part ≡ after (getD reads i []) (window entries₀ (width * i) width)) (full : length part ≡ width) where
         abbrev rows′ : List ℕ
-        rows′ = placed (8 * i) (rowOf r) rows
+        rows′ = placed (8 * i) (rowNumbers r) rows
 
         abbrev entries′ : List ℕ
         entries′ = placed (width * i) part entries
 
+        row-inside : 8 * i + length (rowNumbers r) ≤ length rows
+        row-inside = rw (row-long r) row-room
+
         inside : width * i + length part ≤ length entries
         inside = omega (arith, share-room)
 
-        row-next : (j : ℕ) → j < i + 1 → window rows′ (8 * j) 8 ≡ rowOf (answer (getD reads j []))
+        row-next : (j : ℕ) → j < i + 1 → window rows′ (8 * j) 8 ≡ rowNumbers (answer (getD reads j []))
         row-next j h =
             by-test (ltb j i)
-            (λ e. let k = ltb-true j i e in placed-before (8 * i) (rowOf r) rows row-room (8 * j) 8 (omega arith) ∙ s .row j k)
-            (λ e. let k : j ≡ i = omega (arith, ltb-false j i e) in rw k (placed-there (8 * i) (rowOf r) rows row-room ∙ ap rowOf answered))
+            (λ e. let k = ltb-true j i e in placed-before (8 * i) (rowNumbers r) rows row-inside (8 * j) 8 (omega arith) ∙ s .row j k)
+            (λ e. let k : j ≡ i = omega (arith, ltb-false j i e) in rw k (ap (λ n. window rows′ (8 * i) n) (sym (row-long r)) ∙ placed-there (8 * i) (rowNumbers r) rows row-inside ∙ ap rowNumbers answered))
 
         share-next : (j : ℕ) → j < i + 1 → window entries′ (width * j) width ≡ after (getD reads j []) (window entries₀ (width * j) width)
         share-next j h =
@@ -188,21 +178,21 @@ module _ (answer : List ℕ → Answer) (after : List ℕ → List ℕ → List 
               row = row-next;
               share = share-next;
               rest = behind;
-              rows-long = length-placed (8 * i) (rowOf r) rows row-room ∙ s .rows-long;
+              rows-long = length-placed (8 * i) (rowNumbers r) rows row-inside ∙ s .rows-long;
               entries-long = length-placed (width * i) part entries inside ∙ s .entries-long;
             }
 
 -- the same for ranked sequences
 abbrev pub RankedShares : ℕ → List (List ℕ) → List ℕ → ℕ → List ℕ → List ℕ → ℕ → List ℕ → List ℕ → ℕ → List ℕ → List ℕ → Type 0
 RankedShares q ss ranked limit bytes ends share rows₀ entries₀ i rows entries =
-    Shares (λ read. readAnswer q ss read limit share) (λ read part. readEntries ss ranked read limit part) (cut ends bytes) (4 * share) rows₀ entries₀ i rows entries
+    Shares (λ read. rankedAnswer q ss read limit share) (λ read part. rankedEntries ss ranked read limit part) (cut ends bytes) (4 * share) rows₀ entries₀ i rows entries
 
 module _ (q : ℕ) (ss : List (List ℕ)) (ranked : List ℕ) (limit : ℕ) (bytes ends : List ℕ) (share : ℕ) (rows₀ entries₀ : List ℕ) where
-  abbrev one-answer : List ℕ → Answer
-  one-answer read = readAnswer q ss read limit share
+  abbrev one-answer : List ℕ → Outcome Row
+  one-answer read = rankedAnswer q ss read limit share
 
   abbrev one-after : List ℕ → List ℕ → List ℕ
-  one-after read part = readEntries ss ranked read limit part
+  one-after read part = rankedEntries ss ranked read limit part
 
   count : length (cut ends bytes) ≡ length ends
   count = length-cut 0 ends bytes
@@ -230,20 +220,20 @@ module _ (q : ℕ) (ss : List (List ℕ)) (ranked : List ℕ) (limit : ℕ) (byt
       pub shares-share : 4 * share * i + 4 * share ≤ length entries
       shares-share = share-room one-answer one-after (cut ends bytes) (4 * share) rows₀ entries₀ i rows entries s here′ room′ wide′
 
-      module _ (read : List ℕ) (r : MapAnswer) (rows′ entries′ : List ℕ) (taken : read ≡ getD (cut ends bytes) i []) (mapped : ShareMapped q ss ranked read limit (4 * share * i) (4 * share) r entries entries′) (put : rows′ ≡ placed (8 * i) (rowOf (answerOf r)) rows) where
+      module _ (read : List ℕ) (r : MapAnswer) (rows′ entries′ : List ℕ) (taken : read ≡ getD (cut ends bytes) i []) (mapped : ShareMapped q ss ranked read limit (4 * share * i) (4 * share) r entries entries′) (put : rows′ ≡ placed (8 * i) (rowNumbers (answerOf r)) rows) where
         long : length (window entries (4 * share * i) (4 * share)) ≡ 4 * share
         long = length-window entries (4 * share * i) (4 * share) shares-share
 
         answered : answerOf r ≡ one-answer (getD (cut ends bytes) i [])
         answered =
             let n : entryCount (window entries (4 * share * i) (4 * share)) ≡ share = omega (arith, long) in
-            mapped .answer ∙ ap₂ (λ l k. readAnswer q ss l limit k) taken n
+            mapped .answer ∙ ap₂ (λ l k. rankedAnswer q ss l limit k) taken n
 
         written : one-after read (window entries (4 * share * i) (4 * share)) ≡ one-after (getD (cut ends bytes) i []) (window entries₀ (4 * share * i) (4 * share))
-        written = ap₂ (λ l b. readEntries ss ranked l limit b) taken (shares-untouched one-answer one-after (cut ends bytes) (4 * share) rows₀ entries₀ i rows entries s)
+        written = ap₂ (λ l b. rankedEntries ss ranked l limit b) taken (shares-untouched one-answer one-after (cut ends bytes) (4 * share) rows₀ entries₀ i rows entries s)
 
         full : length (one-after read (window entries (4 * share * i) (4 * share))) ≡ 4 * share
-        full = read-entries-length ss ranked read limit (window entries (4 * share * i) (4 * share)) ∙ long
+        full = share-length ss ranked read limit (window entries (4 * share * i) (4 * share)) ∙ long
 
         pub shares-next : RankedShares q ss ranked limit bytes ends share rows₀ entries₀ (i + 1) rows′ entries′
         shares-next =

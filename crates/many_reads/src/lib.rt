@@ -6,28 +6,31 @@ ghost use lib.ListN.{length};
 ghost use Rattle.lists.specs.Filter.{every};
 ghost use Rattle.lists.specs.Cut.{endsWithin};
 ghost use Rattle.promises.specs.Slice.{old, new};
+ghost use Rattle.promises.specs.Refusal.{refused};
 ghost use Rattle.bases.specs.Base.{isCapital};
 ghost use Rattle.catalogue.specs.Catalogue.{lentCatalogue};
 ghost use Rattle.seeds.specs.Seeds.{placed};
 ghost use Rattle.index.specs.Index.{rankedSequences, Lent, SeedLength, lentSequences};
 ghost use Rattle.search.specs.Answer.{answerOf};
 ghost use Rattle.search.specs.Steps.{Mappable};
-ghost use Rattle.many_reads.specs.Reads.{rowOf, listRefusal, ShareMapped, RankedMapped, RankedReads, MapsReads};
+ghost use Rattle.many_reads.specs.Reads.{rowNumbers, listRefusal, ShareMapped, RankedMapped, RankedReads, MapsReads};
 use catalogue::bounds::ends_within;
 use catalogue::ranks::Ranking;
 use index::test::is_index;
-use indexed_mapper::map::map_read;
+use indexed_mapper::map::check_read;
 use names::sequences::sequence_at;
 use postings::plan::rank_checked;
 use scan::entries::write_four;
 use search::answer::MapAnswer;
 use search::answer::Mapping;
 use search::answer::state_number;
+use search::bounds::limit_right;
+use search::search_part;
 
 // Writes the row of a refusal.
 fn write_refused(rows: &mut [u64], at: usize, n: u64)
     requires { ⌜ at + 8 ≤ length (now rows) ⌝ }
-    ensures { λ _. ⌜ new rows ≡ placed at (rowOf (answerOf (MapAnswer.Refused n))) (old rows) ⌝ }
+    ensures { λ _. ⌜ new rows ≡ placed at (rowNumbers (refused n)) (old rows) ⌝ }
 {
     write_four(rows, at, n, 0, 0, 0);
     write_four(rows, at + 4, 0, 0, 0, 0);
@@ -36,7 +39,7 @@ fn write_refused(rows: &mut [u64], at: usize, n: u64)
 // Writes the row of a mapped read.
 fn write_mapped(rows: &mut [u64], at: usize, m: Mapping)
     requires { ⌜ at + 8 ≤ length (now rows) ⌝ }
-    ensures { λ _. ⌜ new rows ≡ placed at (rowOf (answerOf (MapAnswer.Mapped m))) (old rows) ⌝ }
+    ensures { λ _. ⌜ new rows ≡ placed at (rowNumbers (answerOf (MapAnswer.Mapped m))) (old rows) ⌝ }
 {
     let state = m.state;
     let work = m.work;
@@ -61,7 +64,7 @@ fn write_mapped(rows: &mut [u64], at: usize, m: Mapping)
 // Writes the row of an answer: refusal, state, groups, lookups, hits, examined, comparisons, seen.
 pub fn write_row(rows: &mut [u64], at: usize, answer: MapAnswer)
     requires { ⌜ at + 8 ≤ length (now rows) ⌝ }
-    ensures { λ _. ⌜ new rows ≡ placed at (rowOf (answerOf answer)) (old rows) ⌝ }
+    ensures { λ _. ⌜ new rows ≡ placed at (rowNumbers (answerOf answer)) (old rows) ⌝ }
 {
     match answer {
         MapAnswer::Refused(n) => write_refused(rows, at, n),
@@ -87,9 +90,14 @@ fn map_share(
     requires { ⌜ Mappable q (now bases) (now ends) (now ranked) (now keys) (now ranks) (now positions) × (from + width ≤ length (now entries)) ⌝ }
     ensures { λ r. ⌜ ShareMapped q (lentSequences bases ends ranked) (old ranked) (old read) limit from width r (old entries) (new entries) ⌝ }
 {
-    let end = from + width;
-    map_read(
-        &mut entries[from..end],
+    let refusal = check_read(read, limit);
+    if refusal != 0 {
+        return MapAnswer::Refused(refusal);
+    }
+    search_part(
+        entries,
+        from,
+        width,
         bases,
         ends,
         ranked,
@@ -149,10 +157,7 @@ fn map_shares(
 fn check_reads(reads: &[u8], read_ends: &[usize], rows: usize, limit: u64) -> u64
     ensures { λ r. ⌜ r ≡ listRefusal limit (old reads) (old «read_ends») rows ⌝ }
 {
-    if limit < 1 {
-        return 9;
-    }
-    if 10000000 < limit {
+    if !limit_right(limit) {
         return 9;
     }
     if !ends_within(read_ends, reads.len()) {

@@ -1,48 +1,28 @@
--- `many_reads::map_share` meets its contract: the lent part comes back at its place.
+-- `many_reads::map_share` meets its contract: the refusal of the read or the limit, or the search into its share.
 -- Assumes nothing.
-use Prim.Native.Nat.{_+_, _-_}
-use native.Mathlib.Omega.{arith}
+use mathlib.Core.Path.{sym, _∙_}
 use Rattle.index.specs.Index.{rankedSequences}
-use Rattle.many_reads.proofs.Sharing.{part-mapped}
+use Rattle.indexed_mapper.proofs.Mapping.{searchable}
+use Rattle.many_reads.proofs.Sharing.{share-refused, share-searched}
 use borrow.Author.Needs.{needs}
 use Rattle.many_reads.proofs.map_share.Statement.{statement}
 use Rattle.many_reads.proofs.map_share.Tie as tie
 
-add-end : tie.Need-add-end
-add-end c = search needs
+check-read-requires : tie.Need-check-read-requires
+check-read-requires c κs = search needs
 
-mul-map-read : tie.Need-mul-map-read
-mul-map-read c = search needs
+returns : tie.Need-returns
+returns c = let a = c .before .before .before .before .before .before .before .before .before .before .args in share-refused (a .q) (rankedSequences (a .bases .now) (a .ends .now) (a .ranked .now)) (a .ranked .now) (a .read .now) (a .limit) (a .from) (a .width) (a .entries .now) (c .before .before .before .before .before .before .before .before .before .before .pre .1) _ (c .before .check-read .ensures) (c .if1 .taken)
 
-sub-map-read : tie.Need-sub-map-read
-sub-map-read c = search needs
-
-part-map-read-start : tie.Need-part-map-read-start
-part-map-read-start c = search needs
-
-part-map-read-end : tie.Need-part-map-read-end
-part-map-read-end c = search needs
-
-map-read-requires : tie.Need-map-read-requires
-map-read-requires c κs = search needs
+search-part-requires : tie.Need-search-part-requires
+search-part-requires c κs = let a = c .before .before .before .before .before .before .before .before .before .before .before .args in (searchable (a .q) (a .bases .now) (a .ends .now) (a .ranked .now) _ _ _ _ (a .limit) (c .before .before .before .before .before .before .before .before .before .before .before .pre .0) (sym (c .before .before .check-read .ensures) ∙ c .before .if1 .left), c .before .before .before .before .before .before .before .before .before .before .before .pre .1)
 
 same-length : tie.Need-same-length
 same-length c = search needs
 
-returns : tie.Need-returns
-returns c =
-    let a = c .before .before .before .before .before .before .before .before .before .before .before .before .args in
-    part-mapped (a .q) (rankedSequences (a .bases .now) (a .ends .now) (a .ranked .now)) (a .ranked .now) (a .read .now) (a .limit) (a .from) (a .width) _ (a .entries .now) (c .before .before .before .before .before .before .before .before .before .before .before .before .pre .1) (a .from + a .width - a .from) (omega arith) _ (c .before .before .map-read .ensures)
+returns-2 : tie.Need-returns-2
+returns-2 c = let a = c .before .before .before .before .before .before .before .before .before .before .before .before .before .before .args in share-searched (a .q) (rankedSequences (a .bases .now) (a .ends .now) (a .ranked .now)) (a .ranked .now) (a .read .now) (a .limit) (a .from) (a .width) (a .entries .now) (sym (c .before .before .before .before .before .check-read .ensures) ∙ c .before .before .before .before .if1 .left) _ _ (c .before .before .search-part .ensures)
 
 pub map-share-spec : {M : Type 1} → statement M
 map-share-spec =
-    tie.close
-    (tie.spec
-    add-end
-    mul-map-read
-    sub-map-read
-    part-map-read-start
-    part-map-read-end
-    map-read-requires
-    same-length
-    returns)
+    tie.close (tie.spec check-read-requires returns search-part-requires same-length returns-2)
