@@ -6,12 +6,11 @@ ghost use Prim.Native.Nat.{_≤_};
 ghost use lib.ListN.{length};
 ghost use Rattle.promises.specs.Slice.{old, new};
 ghost use Rattle.catalogue.specs.Catalogue.{lentCatalogue};
-ghost use Rattle.seeds.specs.Seeds.{placed};
 ghost use Rattle.index.specs.Index.{indexRefusal};
-ghost use Rattle.postings.specs.Answers.{planAnswer, builtRefusal, builtCount};
+ghost use Rattle.postings.specs.Answers.{planOutcome, builtOutcome};
 ghost use Rattle.search.specs.Answer.{answerOf};
-ghost use Rattle.many_reads.specs.Reads.{rowOf, MapsReads};
-ghost use Rattle.exports.specs.Exports.{planNumbers, buildNumbers, ExportsPlan, ExportsBuild, ExportsMap};
+ghost use Rattle.many_reads.specs.Reads.{rowNumbers, MapsReads};
+ghost use Rattle.exports.specs.Exports.{planNumbers, buildNumbers, Put, ExportsPlan, ExportsBuild, ExportsMap};
 use indexed_mapper::map::map;
 use many_reads::map_reads;
 use many_reads::write_row;
@@ -25,7 +24,7 @@ use search::answer::MapAnswer;
 // Writes the answer of a plan, and returns its refusal.
 fn put_plan(answer: &mut [u64], planned: IndexPlan) -> u64
     requires { ⌜ 3 ≤ length (now answer) ⌝ }
-    ensures { λ r. ⌜ (r ≡ planAnswer planned .0) × (new answer ≡ placed 0 (planNumbers (planAnswer planned)) (old answer)) ⌝ }
+    ensures { λ r. ⌜ Put planNumbers (planOutcome planned) r (old answer) (new answer) ⌝ }
 {
     match planned {
         IndexPlan::Refused(n) => {
@@ -46,7 +45,7 @@ fn put_plan(answer: &mut [u64], planned: IndexPlan) -> u64
 // Writes the answer of a build, and returns its refusal.
 fn put_built(answer: &mut [u64], built: Built) -> u64
     requires { ⌜ 2 ≤ length (now answer) ⌝ }
-    ensures { λ r. ⌜ (r ≡ builtRefusal built) × (new answer ≡ placed 0 (buildNumbers (builtRefusal built) (builtCount built)) (old answer)) ⌝ }
+    ensures { λ r. ⌜ Put buildNumbers (builtOutcome built) r (old answer) (new answer) ⌝ }
 {
     match built {
         Built::Refused(n) => {
@@ -65,7 +64,7 @@ fn put_built(answer: &mut [u64], built: Built) -> u64
 // Writes the answer of `map`, and returns its refusal.
 fn put_answer(answer: &mut [u64], mapped: MapAnswer) -> u64
     requires { ⌜ 8 ≤ length (now answer) ⌝ }
-    ensures { λ r. ⌜ (r ≡ answerOf mapped .refusal) × (new answer ≡ placed 0 (rowOf (answerOf mapped)) (old answer)) ⌝ }
+    ensures { λ r. ⌜ Put rowNumbers (answerOf mapped) r (old answer) (new answer) ⌝ }
 {
     write_row(answer, 0, mapped);
     answer[0]

@@ -4,7 +4,7 @@ use mathlib.Core.Path.{_≡_, refl, sym, ap, _∙_}
 use mathlib.Core.Bool.{Bool, true, false}
 use Prim.Native.Nat.{ℕ, zero, suc}
 use native.Mathlib.Omega.{arith}
-use Rattle.promises.specs.Refusal.{unless, _orElse_, Outcome, refused, accepted, outcome}
+use Rattle.promises.specs.Refusal.{unless, _orElse_, Outcome, refused, accepted, numberOf, outcome}
 
 -- a refusal stands in front of all that follow it
 pub first-stands : (n m : ℕ) → (n ≡ 0 → ⊥) → n ≡ (n orElse m)
@@ -26,6 +26,11 @@ passed true n ne e = refl
 passed false n ne e = absurd (ne e)
 
 module _ {A : Type 0} where
+  -- the number of an outcome is its refusal
+  pub number-is : (n : ℕ) (a : A) → numberOf (outcome n a) ≡ n
+  number-is zero a = refl
+  number-is (suc n) a = refl
+
   -- a refusal is told by its number
   pub outcome-refused : (n : ℕ) (a : A) → (n ≡ 0 → ⊥) → refused n ≡ outcome n a
   outcome-refused zero a ne = absurd (ne refl)

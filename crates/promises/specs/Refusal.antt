@@ -18,6 +18,11 @@ pub data Outcome (A : Type 0) : Type 0 where
   refused : ℕ → Outcome A
   accepted : A → Outcome A
 
+-- the number that stands for an outcome: its refusal, or 0
+abbrev pub numberOf : {A : Type 0} → Outcome A → ℕ
+numberOf (refused n) = n
+numberOf (accepted a) = 0
+
 -- the outcome of a call with this refusal, which is 0 where it is accepted
 abbrev pub outcome : {A : Type 0} → ℕ → A → Outcome A
 outcome zero a = accepted a

@@ -28,13 +28,13 @@ same-length : tie.Need-same-length
 same-length c = search needs
 
 returns : tie.Need-returns
-returns c = let g = c .before .built .given in rw (g .1) (refl, put-2 (c .before .before .before .args .answer .now) _ _ (c .before .before .before .pre))
+returns c = let g = c .before .built .given in rw (g .1) (record { number = refl; written = put-2 (c .before .before .before .args .answer .now) _ _ (c .before .before .before .pre) })
 
 same-length-2 : tie.Need-same-length-2
 same-length-2 c = search needs
 
 returns-2 : tie.Need-returns-2
-returns-2 c = let g = c .before .built2 .given in rw (g .1) (refl, put-2 (c .before .before .before .args .answer .now) _ _ (c .before .before .before .pre))
+returns-2 c = let g = c .before .built2 .given in rw (g .1) (record { number = refl; written = put-2 (c .before .before .before .args .answer .now) _ _ (c .before .before .before .pre) })
 
 pub put-built-spec : {M : Type 1} → statement M
 put-built-spec =

@@ -38,7 +38,7 @@ same-length : tie.Need-same-length
 same-length c = search needs
 
 returns : tie.Need-returns
-returns c = let g = c .before .planned .given in rw (g .1) (refl, put-3 (c .before .before .before .args .answer .now) _ _ _ (c .before .before .before .pre))
+returns c = let g = c .before .planned .given in rw (g .1) (record { number = refl; written = put-3 (c .before .before .before .args .answer .now) _ _ _ (c .before .before .before .pre) })
 
 same-length-2 : tie.Need-same-length-2
 same-length-2 c = search needs
@@ -46,7 +46,7 @@ same-length-2 c = search needs
 returns-2 : tie.Need-returns-2
 returns-2 c =
     let g = c .before .planned2 .given in
-    rw (g .1) (refl, put-3 (c .before .before .before .args .answer .now) _ _ _ (c .before .before .before .pre))
+    rw (g .1) (record { number = refl; written = put-3 (c .before .before .before .args .answer .now) _ _ _ (c .before .before .before .pre) })
 
 pub put-plan-spec : {M : Type 1} → statement M
 put-plan-spec =
