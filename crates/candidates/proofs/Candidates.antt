@@ -32,7 +32,7 @@ use Rattle.bases.specs.Read.{oriented}
 use Rattle.bases.proofs.Bytes.{code-upper}
 use Rattle.columns.specs.Posting.{Posting, posting, earlier}
 use Rattle.seeds.specs.Key.{keyOf}
-use Rattle.seeds.specs.Seeds.{starts}
+use Rattle.seeds.specs.Window.{starts}
 use Rattle.index.specs.Index.{indexOf, isSeed}
 use Rattle.index.proofs.Indexing.{index-ascending, index-∈-seed, seed-∈-index}
 use Rattle.places.specs.Place.{Place, Fits, place, triple, before, folded, places, matches, groups}

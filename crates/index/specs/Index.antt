@@ -15,7 +15,8 @@ use Rattle.catalogue.specs.Catalogue.{Catalogue, Target, Valid, catalogueRefusa
 use Rattle.columns.specs.Posting.{Posting, earlier}
 use Rattle.columns.specs.Parts.{row}
 use Rattle.seeds.specs.Key.{keyOf}
-use Rattle.seeds.specs.Seeds.{starts, seeds, keysOf, ranksOf, positionsOf}
+use Rattle.seeds.specs.Seeds.{seeds, keysOf, ranksOf, positionsOf}
+use Rattle.seeds.specs.Window.{starts}
 
 -- every seed of sequences by rank, the first of which has rank r
 abbrev pub allSeeds : ℕ → ℕ → List (List ℕ) → List Posting

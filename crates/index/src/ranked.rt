@@ -4,7 +4,7 @@ ghost use mathlib.Core.List.{[]};
 ghost use Prim.Native.Nat.{_<_};
 ghost use lib.ListN.{length, getD};
 ghost use Rattle.promises.specs.Slice.{old};
-ghost use Rattle.seeds.specs.Seeds.{starts};
+ghost use Rattle.seeds.specs.Window.{starts};
 ghost use Rattle.index.specs.Index.{allSeeds, Lent, SeedLength, lentSequences};
 use names::sequences::sequence_at;
 

@@ -8,7 +8,7 @@ ghost use Rattle.lists.specs.Cut.{window};
 ghost use Rattle.promises.specs.Slice.{old};
 ghost use Rattle.columns.specs.Posting.{Columns, posting};
 ghost use Rattle.seeds.specs.Key.{keyOf};
-ghost use Rattle.seeds.specs.Seeds.{starts};
+ghost use Rattle.seeds.specs.Window.{starts};
 ghost use Rattle.index.specs.Index.{indexOf, columnsOf, isSeed, RowsRight, Tells, Climbs, Lent, SeedLength, lentSequences};
 use crate::ranked::count_postings;
 use crate::ranked::ranked_sequence;

@@ -10,7 +10,7 @@ use Rattle.lists.specs.Triple.{Triple, lexicographic}
 use Rattle.lists.specs.Cut.{window}
 use Rattle.bases.specs.Base.{upperOf, isCapital}
 use Rattle.bases.specs.Read.{oriented}
-use Rattle.seeds.specs.Seeds.{starts}
+use Rattle.seeds.specs.Window.{starts}
 
 -- the rank of a sequence, a start in it, and the strand: 0 for '+', 1 for '-'
 pub record Place : Type 0 where

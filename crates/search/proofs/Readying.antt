@@ -11,7 +11,7 @@ use Rattle.bases.specs.Read.{oriented}
 use Rattle.bases.proofs.Turning.{length-oriented}
 use Rattle.names.specs.Ordered.{numbers}
 use Rattle.seeds.specs.Key.{SeedIn}
-use Rattle.seeds.specs.Seeds.{starts}
+use Rattle.seeds.specs.Window.{starts}
 use Rattle.lookup.specs.Range.{Rising}
 use Rattle.index.specs.Index.{indexOf, rankedSequences}
 use Rattle.index.proofs.Hits.{index-rising}

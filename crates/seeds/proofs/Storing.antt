@@ -9,9 +9,9 @@ use native.Mathlib.Nat.{add-zero}
 use lib.ListN.{length, getD, take, drop, set, length-append, length-drop, length-map, length-set, take-append-drop}
 use lib.Seq.{drop-cons, set-at, append-snoc, length-take-le, take-at, drop-at, drop-drop}
 use Rattle.columns.specs.Posting.{Posting}
-use Rattle.lists.specs.Cut.{window}
+use Rattle.seeds.specs.Window.{windowOf}
 use Rattle.seeds.specs.Key.{keyOf}
-use Rattle.seeds.specs.Seeds.{starts, seedAt, seedsFrom, seeds, keysOf, ranksOf, positionsOf, placed, Stored, Room}
+use Rattle.seeds.specs.Seeds.{seedAt, seedsFrom, seeds, keysOf, ranksOf, positionsOf, placed, Stored, Room}
 
 -- ---- one buffer
 
@@ -111,14 +111,14 @@ module _ (at : ℕ) where
 -- the first i seeds of a sequence are stored, and the key is that of the last of them, or of the first
 pub record Appending (at q r : ℕ) (s ks₀ rs₀ os₀ : List ℕ) (n key i : ℕ) (ks rs os : List ℕ) : Type 0 where
   pub inside : i ≤ n
-  pub digits : key ≡ keyOf (window s (i - 1) q)
+  pub digits : key ≡ keyOf (windowOf s (i - 1) q)
   pub stored : Stored at (seedsFrom q r s 0 i) ks₀ rs₀ os₀ ks rs os
   pub lengths : (length ks ≡ length ks₀) × (length rs ≡ length rs₀) × (length os ≡ length os₀)
 
-pub appending-start : (at q r : ℕ) (s ks rs os : List ℕ) (n key : ℕ) → key ≡ keyOf (window s 0 q) → Appending at q r s ks rs os n key 0 ks rs os
+pub appending-start : (at q r : ℕ) (s ks rs os : List ℕ) (n key : ℕ) → key ≡ keyOf (windowOf s 0 q) → Appending at q r s ks rs os n key 0 ks rs os
 appending-start at q r s ks rs os n key d =
     let z : 0 ≡ 0 - 1 = refl in
-    record { inside = omega arith; digits = d ∙ ap (λ k. keyOf (window s k q)) z; stored = stored-none at ks rs os; lengths = (refl, refl, refl) }
+    record { inside = omega arith; digits = d ∙ ap (λ k. keyOf (windowOf s k q)) z; stored = stored-none at ks rs os; lengths = (refl, refl, refl) }
 
 module _ (at q r : ℕ) (s ks₀ rs₀ os₀ : List ℕ) (n : ℕ) (room : Room at n ks₀ rs₀ os₀) (key i : ℕ) (ks rs os : List ℕ) (a : Appending at q r s ks₀ rs₀ os₀ n key i ks rs os) where
   -- there is room for the next posting
@@ -126,7 +126,7 @@ module _ (at q r : ℕ) (s ks₀ rs₀ os₀ : List ℕ) (n : ℕ) (room : Room 
   appending-room h = record { keys = omega (arith, room .keys, a .lengths .0); ranks = omega (arith, room .ranks, a .lengths .1); positions = omega (arith, room .positions, a .lengths .2) }
 
   -- the next posting is written
-  pub appending-next : i < n → (key′ : ℕ) (ks′ rs′ os′ : List ℕ) → key′ ≡ keyOf (window s i q) → ks′ ≡ set ks (at + i) key′ → rs′ ≡ set rs (at + i) r → os′ ≡ set os (at + i) i → Appending at q r s ks₀ rs₀ os₀ n key′ (i + 1) ks′ rs′ os′
+  pub appending-next : i < n → (key′ : ℕ) (ks′ rs′ os′ : List ℕ) → key′ ≡ keyOf (windowOf s i q) → ks′ ≡ set ks (at + i) key′ → rs′ ≡ set rs (at + i) r → os′ ≡ set os (at + i) i → Appending at q r s ks₀ rs₀ os₀ n key′ (i + 1) ks′ rs′ os′
   appending-next h key′ ks′ rs′ os′ d e f g =
       let l : length (seedsFrom q r s 0 i) ≡ i = length-seeds q r s 0 i in
       let w = stored-snoc at (seedsFrom q r s 0 i) ks₀ rs₀ os₀ ks rs os (a .stored) (seedAt q r s i) i l (record { keys = omega (arith, room .keys); ranks = omega (arith, room .ranks); positions = omega (arith, room .positions) }) in
@@ -136,7 +136,7 @@ module _ (at q r : ℕ) (s ks₀ rs₀ os₀ : List ℕ) (n : ℕ) (room : Room 
       let o = a .lengths in
       record {
         inside = omega arith;
-        digits = d ∙ ap (λ k. keyOf (window s k q)) (sym x);
+        digits = d ∙ ap (λ k. keyOf (windowOf s k q)) (sym x);
         stored = rw (e, f, g, d, ← more) w;
         lengths = (ap length e ∙ length-set ks (at + i) key′ ∙ o .0, ap length f ∙ length-set rs (at + i) r ∙ o .1, ap length g ∙ length-set os (at + i) i ∙ o .2);
       }

@@ -2,10 +2,10 @@
 ghost use mathlib.Core.Path.{_≡_};
 ghost use Prim.Native.Nat.{_+_, _-_, _^_, _≤_};
 ghost use lib.ListN.{length, set};
-ghost use Rattle.lists.specs.Cut.{window};
 ghost use Rattle.promises.specs.Slice.{old, new};
 ghost use Rattle.seeds.specs.Key.{keyOf, SeedIn};
-ghost use Rattle.seeds.specs.Seeds.{starts, seeds, Stored, Room};
+ghost use Rattle.seeds.specs.Seeds.{seeds, Stored, Room};
+ghost use Rattle.seeds.specs.Window.{windowOf, starts};
 use crate::keys::key_at;
 use crate::keys::key_next;
 use crate::keys::power;
@@ -31,8 +31,8 @@ fn put(
 // The key at a start, from the key at the one before it; at the first start it is the key itself.
 fn key_on(sequence: &[u8], q: usize, start: usize, high: u64, key: u64) -> u64
     requires { ⌜ SeedIn (length (now sequence)) q start ⌝ }
-    requires { ⌜ (high ≡ 4 ^ (q - 1)) × (key ≡ keyOf (window (now sequence) (start - 1) q)) ⌝ }
-    ensures { λ r. ⌜ r ≡ keyOf (window (old sequence) start q) ⌝ }
+    requires { ⌜ (high ≡ 4 ^ (q - 1)) × (key ≡ keyOf (windowOf (now sequence) (start - 1) q)) ⌝ }
+    ensures { λ r. ⌜ r ≡ keyOf (windowOf (old sequence) start q) ⌝ }
 {
     if start == 0 {
         return key;

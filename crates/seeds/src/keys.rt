@@ -2,7 +2,7 @@
 ghost use mathlib.Core.Path.{_≡_};
 ghost use Prim.Native.Nat.{_+_, _-_, _^_, _<_};
 ghost use lib.ListN.{length};
-ghost use Rattle.lists.specs.Cut.{window};
+ghost use Rattle.seeds.specs.Window.{windowOf};
 ghost use Rattle.promises.specs.Slice.{old};
 ghost use Rattle.bases.specs.Read.{oriented};
 ghost use Rattle.seeds.specs.Key.{keyOf, SeedIn};
@@ -26,7 +26,7 @@ pub fn power(n: usize) -> u64
 // The key of the q bases at a start.
 pub fn key_at(sequence: &[u8], strand: u64, q: usize, start: usize) -> u64
     requires { ⌜ SeedIn (length (now sequence)) q start ⌝ }
-    ensures { λ r. ⌜ r ≡ keyOf (window (oriented strand (old sequence)) start q) ⌝ }
+    ensures { λ r. ⌜ r ≡ keyOf (windowOf (oriented strand (old sequence)) start q) ⌝ }
 {
     let table = table();
     let mut key: u64 = 0;
@@ -41,8 +41,8 @@ pub fn key_at(sequence: &[u8], strand: u64, q: usize, start: usize) -> u64
 // From the key at a start to the key at the next one; high is 4 to the power q - 1, what the first digit counts.
 pub fn key_next(sequence: &[u8], strand: u64, q: usize, start: usize, high: u64, key: u64) -> u64
     requires { ⌜ SeedIn (length (now sequence)) q (start + 1) ⌝ }
-    requires { ⌜ (high ≡ 4 ^ (q - 1)) × (key ≡ keyOf (window (oriented strand (now sequence)) start q)) ⌝ }
-    ensures { λ r. ⌜ r ≡ keyOf (window (oriented strand (old sequence)) (start + 1) q) ⌝ }
+    requires { ⌜ (high ≡ 4 ^ (q - 1)) × (key ≡ keyOf (windowOf (oriented strand (now sequence)) start q)) ⌝ }
+    ensures { λ r. ⌜ r ≡ keyOf (windowOf (oriented strand (old sequence)) (start + 1) q) ⌝ }
 {
     let table = table();
     let first = oriented_code(&table, sequence, strand, start);

@@ -5,7 +5,8 @@ use borrow.Author.Needs.{needs}
 use mathlib.Core.Path.{_≡_}
 use Prim.Native.Nat.{_+_, _-_}
 use lib.ListN.{length}
-use Rattle.seeds.specs.Seeds.{starts, Room}
+use Rattle.seeds.specs.Seeds.{Room}
+use Rattle.seeds.specs.Window.{starts}
 use Rattle.seeds.proofs.Storing.{Appending, appending-start, appending-room, appending-next, appending-end, stored-none}
 use Rattle.seeds.proofs.append.append_postings.Statement.{statement}
 use Rattle.seeds.proofs.append.append_postings.Tie as tie
