@@ -8,7 +8,8 @@ use lib.Dec.{ltb}
 use Rattle.lists.specs.Filter.{every}
 use Rattle.bases.specs.Base.{isCapital}
 use Rattle.seeds.specs.Seeds.{placed}
-use Rattle.index.specs.Index.{rankedSequences, Lent, Indexed, SeedLength}
+use Rattle.seeds.specs.Key.{SeedLength}
+use Rattle.index.specs.Index.{rankedSequences, Lent, Indexed}
 use Rattle.places.specs.Place.{groups}
 use Rattle.candidates.specs.declared.rarest.SeedChoice.{SeedChoice}
 use Rattle.candidates.specs.declared.cursor.Candidate.{Candidate}

@@ -17,7 +17,21 @@ use Rattle.bases.specs.Base.{codeOf, upperOf, isCapital}
 use Rattle.bases.specs.Read.{oriented}
 use Rattle.bases.proofs.Bytes.{code-le, letter-low}
 use Rattle.bases.proofs.Turning.{length-oriented}
-use Rattle.seeds.specs.Key.{keyOf, SeedIn}
+use Rattle.seeds.specs.Key.{keyOf, SeedLength, SeedIn, KeyHeld}
+use Rattle.seeds.proofs.Windows.{fits-end, end-fits}
+
+-- a seed within a sequence ends at most at the end
+module _ (s : List ℕ) (q start : ℕ) where
+  pub seed-in : SeedLength q → start + q ≤ length s → SeedIn s q start
+  seed-in size h = record { size = size; inside = end-fits q s start h }
+
+  pub seed-end : SeedIn s q start → start + q ≤ length s
+  seed-end i = fits-end q s start (i .inside)
+
+pub seed-oriented : (strand : ℕ) (bs : List ℕ) (q start : ℕ) → SeedIn bs q start → SeedIn (oriented strand bs) q start
+seed-oriented strand bs q start s = record { size = s .size; inside = rw length-oriented (s .inside) }
+
+-- ---- keys
 
 key-snoc : (w : List ℕ) (b : ℕ) → keyOf (w ++ (b ∷ [])) ≡ keyOf w * 4 + codeOf b
 unfolding keyOf
@@ -97,9 +111,10 @@ step-by l start p most h =
       next = omega (arith, rw add-one at (key-more l (start + 1) p (omega arith)), ap (λ n. codeOf (getD l n 0)) e);
     }
 
-pub step : (l : List ℕ) (start q high key first last : ℕ) → 1 ≤ q → q ≤ 31 → start + 1 + q ≤ length l → high ≡ 4 ^ (q - 1) → key ≡ keyOf (windowOf l start q) → first ≡ codeOf (getD l start 0) → last ≡ codeOf (getD l (start + q) 0) → Step l start q high key first last
-step l start zero high key first last some most h e f g k = absurd (omega arith)
-step l start (suc p) high key first last some most h e f g k = rw (e, f, g, k, sub-one) (step-by l start p most h)
+pub step : (l : List ℕ) (start q high key first last : ℕ) → SeedIn l q (start + 1) → KeyHeld l q start high key → first ≡ codeOf (getD l start 0) → last ≡ codeOf (getD l (start + q) 0) → Step l start q high key first last
+step l start zero high key first last s k f g = absurd (omega (arith, s .size .some))
+step l start (suc p) high key first last s k f g =
+    rw (k .first-digit, k .key-is, f, g, sub-one) (step-by l start p (s .size .most) (omega (arith, seed-end l (suc p) (start + 1) s)))
 
 -- a key under way: the first i digits
 pub record Digits (l : List ℕ) (start q key i : ℕ) : Type 0 where
@@ -110,15 +125,12 @@ pub digits-start : (l : List ℕ) (start q : ℕ) → Digits l start q 0 0
 unfolding keyOf
 digits-start l start q = record { inside = omega arith; digits = refl }
 
-module _ (l : List ℕ) (start q key i : ℕ) (d : Digits l start q key i) (s : SeedIn (length l) q start) where
+module _ (l : List ℕ) (start q key i : ℕ) (d : Digits l start q key i) (s : SeedIn l q start) where
   pub digits-room : i < q → key * 4 + 4 < 2 ^ 64
-  digits-room h = rw (d .digits) (more-room l start i (omega arith) (omega arith))
+  digits-room h = let e = seed-end l q start s in rw (d .digits) (more-room l start i (omega arith) (omega (arith, s .size .most)))
 
   pub digits-next : i < q → (code : ℕ) → code ≡ codeOf (getD l (start + i) 0) → Digits l start q (key * 4 + code) (i + 1)
-  digits-next h code e = record { inside = omega arith; digits = omega (arith, key-more l start i (omega arith), d .digits) }
+  digits-next h code e = let f = seed-end l q start s in record { inside = omega arith; digits = omega (arith, key-more l start i (omega arith), d .digits) }
 
   pub digits-end : q ≤ i → key ≡ keyOf (windowOf l start q)
   digits-end h = let e : i ≡ q = omega (arith, d .inside) in rw e at (d .digits)
-
-pub seed-oriented : (strand : ℕ) (bs : List ℕ) (q start : ℕ) → SeedIn (length bs) q start → SeedIn (length (oriented strand bs)) q start
-seed-oriented strand bs q start s = rw length-oriented s

@@ -6,7 +6,7 @@ use Prim.Native.Nat.{_+_, _-_}
 use lib.ListN.{getD}
 use Rattle.bases.specs.Read.{oriented}
 use Rattle.bases.proofs.Bytes.{code-le}
-use Rattle.seeds.proofs.Keying.{Digits, digits-start, digits-room, digits-next, digits-end, seed-oriented}
+use Rattle.seeds.proofs.Keying.{Digits, digits-start, digits-room, digits-next, digits-end, seed-end, seed-oriented}
 use Rattle.seeds.proofs.keys.key_at.Statement.{statement}
 use Rattle.seeds.proofs.keys.key_at.Tie as tie
 
@@ -30,7 +30,7 @@ mul-key c =
     omega (arith, digits-room l (a .start) (a .q) _ _ (c .before .loop .inv) s (c .loop-test .taken))
 
 add-oriented-code : tie.Need-add-oriented-code Inv-loop μ-loop
-add-oriented-code c = omega arith
+add-oriented-code c = omega (arith, seed-end _ _ _ (c .before .before .before .before .before .pre))
 
 oriented-code-requires : tie.Need-oriented-code-requires Inv-loop μ-loop
 oriented-code-requires c κs = c .before .before .before .table .ensures

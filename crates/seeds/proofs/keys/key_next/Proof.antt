@@ -3,7 +3,7 @@
 use native.Mathlib.Omega.{arith}
 use Prim.Native.Nat.{_+_}
 use Rattle.bases.specs.Read.{oriented}
-use Rattle.seeds.proofs.Keying.{Step, step, seed-oriented}
+use Rattle.seeds.proofs.Keying.{Step, step, seed-end, seed-oriented}
 use borrow.Author.Needs.{needs}
 use Rattle.seeds.proofs.keys.key_next.Statement.{statement}
 use Rattle.seeds.proofs.keys.key_next.Tie as tie
@@ -19,7 +19,7 @@ oriented-code-requires : tie.Need-oriented-code-requires
 oriented-code-requires c κs = c .before .table .ensures
 
 add-oriented-code : tie.Need-add-oriented-code
-add-oriented-code c = search needs
+add-oriented-code c = omega (arith, seed-end _ _ _ (c .before .before .before .before .before .pre .0))
 
 oriented-code-requires-2 : tie.Need-oriented-code-requires-2
 oriented-code-requires-2 c κs = c .before .before .before .table .ensures
@@ -30,7 +30,7 @@ stepped c =
     let s = c .before .before .before .before .before .before in
     let a = s .args in
     let w = seed-oriented (a .strand) (a .sequence .now) (a .q) (a .start + 1) (s .pre .0) in
-    step (oriented (a .strand) (a .sequence .now)) (a .start) (a .q) (a .high) (a .key) _ _ (w .some) (w .most) (w .inside) (s .pre .1 .0) (s .pre .1 .1) (c .before .before .oriented-code .ensures) (c .oriented-code2 .ensures)
+    step (oriented (a .strand) (a .sequence .now)) (a .start) (a .q) (a .high) (a .key) _ _ w (s .pre .1) (c .before .before .oriented-code .ensures) (c .oriented-code2 .ensures)
 
 mul-result : tie.Need-mul-result
 mul-result c = omega (arith, stepped c .digit, stepped c .fits)
