@@ -30,7 +30,8 @@ use Rattle.seeds.specs.Key.{SeedLength}
 use Rattle.index.specs.Index.{indexOf, mappedSequences, rankedSequences, seedRight, planRefusal, indexRefusal, columnsOf, Lent, Indexed}
 use Rattle.postings.specs.Answers.{PlanRanked}
 use Rattle.postings.proofs.Planning.{plan-right, no-refusal, ranked-mapped, test-refused}
-use Rattle.places.specs.Place.{Place, folded, groups}
+use Rattle.bases.specs.Read.{folded}
+use Rattle.places.specs.Place.{Place, groups}
 use Rattle.scan.specs.Entries.{entryCount}
 use Rattle.search.specs.Work.{Work, work}
 use Rattle.search.specs.Answer.{roomRefusal, maxRead, maxLimit, limitRight, readRefusal, mapRefusal, suppliedPlaces, Answered, MapsTo}

@@ -6,17 +6,17 @@ use Prim.Native.Nat.{ℕ, _+_, _-_, _*_, _≤_}
 use lib.ListN.{length, take}
 use Rattle.lists.specs.Filter.{filter, every}
 use Rattle.lists.specs.Limit.{stopped}
-use Rattle.bases.specs.Base.{isCapital}
 use Rattle.seeds.specs.Seeds.{placed}
 use Rattle.index.specs.Index.{rankedSequences, Lent}
-use Rattle.places.specs.Place.{Place, folded, matches}
+use Rattle.bases.specs.Read.{capitals, letters}
+use Rattle.places.specs.Place.{Place, matches}
 use Rattle.scan.specs.Entries.{entriesOf}
 
 -- what a search is lent: sequences of capitals by rank, and a read of letters in either case within its bound
 pub record Searchable (bases ends ranked read : List ℕ) : Type 0 where
   pub lent : Lent bases ends ranked
-  pub capitals : every (λ (s : List ℕ). every isCapital s) (rankedSequences bases ends ranked) ≡ true
-  pub letters : every isCapital (folded read) ≡ true
+  pub capitals : every capitals (rankedSequences bases ends ranked) ≡ true
+  pub letters : letters read ≡ true
   pub short : length read ≤ 65535
 
 -- a search under way: its matches are within the bound, the entries have room for as many as the bound, and at least

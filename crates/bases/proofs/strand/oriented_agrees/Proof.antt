@@ -21,12 +21,12 @@ add-sum c = search needs
 returns : tie.Need-returns
 returns c =
     let s = c .before .before .before in let a = s .args in
-    first-sum _ (c .if2 .taken) ∙ on-minus-agrees (a .letter) (a .strand) (a .bases .now) (a .i) (s .pre .0) (s .pre .1 .0) (s .pre .1 .1) (c .before .before .if1 .taken)
+    first-sum _ (c .if2 .taken) ∙ on-minus-agrees (a .letter) (a .strand) (a .bases .now) (a .i) (s .pre) (c .before .before .if1 .taken)
 
 returns-2 : tie.Need-returns-2
 returns-2 c =
     let s = c .before .before .before in let a = s .args in
-    second-sum _ (c .if2 .left) ∙ on-minus-agrees (a .letter) (a .strand) (a .bases .now) (a .i) (s .pre .0) (s .pre .1 .0) (s .pre .1 .1) (c .before .before .if1 .taken)
+    second-sum _ (c .if2 .left) ∙ on-minus-agrees (a .letter) (a .strand) (a .bases .now) (a .i) (s .pre) (c .before .before .if1 .taken)
 
 shared-slice-read-result : tie.Need-shared-slice-read-result
 shared-slice-read-result c = search needs
@@ -34,7 +34,7 @@ shared-slice-read-result c = search needs
 returns-3 : tie.Need-returns-3
 returns-3 c =
     let s = c .before .before in let a = s .args in
-    on-plus-agrees (a .letter) (a .strand) (a .bases .now) (a .i) (s .pre .0) (s .pre .1 .0) (s .pre .1 .1) (c .before .if1 .left)
+    on-plus-agrees (a .letter) (a .strand) (a .bases .now) (a .i) (s .pre) (c .before .if1 .left)
 
 pub oriented-agrees-spec : {M : Type 1} → statement M
 oriented-agrees-spec =
