@@ -1,5 +1,5 @@
 -- Which reads are eligible, and which refusal a read meets (REFERENCE.md, "Eligibility").
-use mathlib.Core.Bool.{Bool, true, false, cond, _&&_}
+use mathlib.Core.Bool.{cond, _&&_}
 use mathlib.Core.List.{List, [], _∷_}
 use Prim.Native.Nat.{ℕ, _-_}
 use lib.ListN.{length}

@@ -9,12 +9,11 @@ use native.Mathlib.Numerals.{add-one, sub-one}
 use native.Mathlib.Omega.{arith}
 use lib.ListN.{length, getD, drop, length-append, length-drop}
 use lib.Seq.{take-suc, drop-cons, getD-drop}
-use Rattle.lists.specs.Filter.{every}
 use Rattle.seeds.specs.Window.{windowOf}
 use Rattle.lists.proofs.Cases.{and-true}
 use Rattle.lists.proofs.Cut.{length-window}
 use Rattle.bases.specs.Base.{codeOf, upperOf, isCapital}
-use Rattle.bases.specs.Read.{oriented}
+use Rattle.bases.specs.Read.{letters, oriented}
 use Rattle.bases.proofs.Bytes.{code-le, letter-low}
 use Rattle.bases.proofs.Turning.{length-oriented}
 use Rattle.seeds.specs.Key.{keyOf, SeedLength, SeedIn, KeyHeld}
@@ -47,11 +46,11 @@ key-loose [] = omega arith
 key-loose (x ∷ w) = omega (arith, key-loose w, mul-le-mul-right (4 ^ length w) (code-le x), pow-suc 4 (length w))
 
 -- the key of q letters is below 4 to the power q
-pub key-below : (w : List ℕ) → every (λ b. isCapital (upperOf b)) w ≡ true → keyOf w < 4 ^ length w
+pub key-below : (w : List ℕ) → letters w ≡ true → keyOf w < 4 ^ length w
 unfolding keyOf
 key-below [] h = omega arith
 key-below (x ∷ w) h =
-    let a = and-true (isCapital (upperOf x)) (every (λ b. isCapital (upperOf b)) w) h in
+    let a = and-true (isCapital (upperOf x)) (letters w) h in
     let c : codeOf x ≤ 3 = omega (arith, letter-low x (a .0)) in
     omega (arith, key-below w (a .1), mul-le-mul-right (4 ^ length w) c, pow-suc 4 (length w))
 
@@ -125,12 +124,24 @@ pub digits-start : (l : List ℕ) (start q : ℕ) → Digits l start q 0 0
 unfolding keyOf
 digits-start l start q = record { inside = omega arith; digits = refl }
 
-module _ (l : List ℕ) (start q key i : ℕ) (d : Digits l start q key i) (s : SeedIn l q start) where
-  pub digits-room : i < q → key * 4 + 4 < 2 ^ 64
-  digits-room h = let e = seed-end l q start s in rw (d .digits) (more-room l start i (omega arith) (omega (arith, s .size .most)))
+-- the digit of one base more
+pub record Digit (l : List ℕ) (start q key i code : ℕ) : Type 0 where
+  pub room : key * 4 + 4 < 2 ^ 64
+  pub small : code ≤ 4
+  pub next : Digits l start q (key * 4 + code) (i + 1)
 
-  pub digits-next : i < q → (code : ℕ) → code ≡ codeOf (getD l (start + i) 0) → Digits l start q (key * 4 + code) (i + 1)
-  digits-next h code e = let f = seed-end l q start s in record { inside = omega arith; digits = omega (arith, key-more l start i (omega arith), d .digits) }
+module _ (strand : ℕ) (bs : List ℕ) (start q key i : ℕ) (s : SeedIn bs q start) (d : Digits (oriented strand bs) start q key i) where
+  seed-fits : start + q ≤ length (oriented strand bs)
+  seed-fits = seed-end (oriented strand bs) q start (seed-oriented strand bs q start s)
 
-  pub digits-end : q ≤ i → key ≡ keyOf (windowOf l start q)
+  pub digits-next : i < q → (code : ℕ) → code ≡ codeOf (getD (oriented strand bs) (start + i) 0) → Digit (oriented strand bs) start q key i code
+  digits-next h code e =
+      let f = seed-fits in
+      record {
+        room = rw (d .digits) (more-room (oriented strand bs) start i (omega arith) (omega (arith, s .size .most)));
+        small = omega (arith, code-le (getD (oriented strand bs) (start + i) 0));
+        next = record { inside = omega arith; digits = omega (arith, key-more (oriented strand bs) start i (omega arith), d .digits) };
+      }
+
+  pub digits-end : q ≤ i → key ≡ keyOf (windowOf (oriented strand bs) start q)
   digits-end h = let e : i ≡ q = omega (arith, d .inside) in rw e at (d .digits)

@@ -6,12 +6,12 @@ use Prim.Native.Nat.{ℕ, zero, suc, _+_, _-_, _<_, _≤_}
 use native.Mathlib.Omega.{arith}
 use native.Mathlib.Numerals.{add-one}
 use native.Mathlib.Nat.{add-zero}
-use lib.ListN.{length, getD, take, drop, set, length-append, length-drop, length-map, length-set, take-append-drop}
+use lib.ListN.{length, getD, take, drop, set, length-append, length-drop, length-map, take-append-drop}
 use lib.Seq.{drop-cons, set-at, append-snoc, length-take-le, take-at, drop-at, drop-drop}
 use Rattle.columns.specs.Posting.{Posting, posting}
 use Rattle.seeds.specs.Window.{windowOf}
 use Rattle.seeds.specs.Key.{keyOf}
-use Rattle.seeds.specs.Seeds.{seedAt, seedsFrom, seeds, keysOf, ranksOf, positionsOf, placed, Stored, Room}
+use Rattle.seeds.specs.Seeds.{seedAt, seedsFrom, placed, Stored, Room}
 
 -- ---- one buffer
 

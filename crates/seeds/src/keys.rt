@@ -31,7 +31,8 @@ pub fn key_at(sequence: &[u8], strand: u64, q: usize, start: usize) -> u64
     let mut key: u64 = 0;
     let mut i = 0;
     while i < q {
-        key = key * 4 + oriented_code(&table, sequence, strand, start + i);
+        let code = oriented_code(&table, sequence, strand, start + i);
+        key = key * 4 + code;
         i += 1;
     }
     key

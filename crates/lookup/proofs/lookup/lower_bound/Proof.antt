@@ -1,4 +1,4 @@
--- `postings::lookup::lower_bound` meets its contract. The invariant: the place looked for is between low and high, and so is the next probe.
+-- `lookup::lookup::lower_bound` meets its contract. The invariant: the place looked for is between low and high, and so is the next probe.
 -- Assumes nothing.
 use native.Mathlib.Omega.{arith}
 use borrow.Author.Needs.{needs}
@@ -16,7 +16,7 @@ abbrev μ-loop : tie.MeasureT-loop
 loop-holds : tie.Need-loop-holds Inv-loop μ-loop
 loop-holds c =
     let a = c .before .args in
-    record { between = between-from (a .keys .now) (a .bound) (a .from) (c .before .pre .0 .1 .0); within = c .before .pre .1 }
+    record { between = between-from (a .keys .now) (a .bound) (a .from) (c .before .pre .below); within = c .before .pre .within }
 
 longer-requires : tie.Need-longer-requires Inv-loop μ-loop
 longer-requires c κs = search needs
@@ -37,7 +37,7 @@ sub-probe-after : tie.Need-sub-probe-after Inv-loop μ-loop
 sub-probe-after c = omega (arith, c .if1 .taken)
 
 div-probe-after : tie.Need-div-probe-after Inv-loop μ-loop
-div-probe-after c = omega (arith, c .before .before .before .before .before .before .pre .0 .1 .1)
+div-probe-after c = omega (arith, c .before .before .before .before .before .before .pre .apart)
 
 probe-after-requires : tie.Need-probe-after-requires Inv-loop μ-loop
 probe-after-requires c κs = search needs
@@ -53,10 +53,14 @@ loop-again c =
     let a = c .before .before .before .before .before .before .before .args in
     let at = c .before .before .before .before .before .loop in
     let w = at .inv .within (c .before .before .before .before .loop-test .taken) in
-    record { between = go-higher (a .keys .now) (a .bound) _ _ (at .inv .between) (c .before .before .before .before .before .before .before .pre .0 .0) (at .mid) (w .0) (w .1) _ (c .before .before .posting-key .ensures) (c .before .if1 .taken); within = c .probe-after .ensures }
+    let p = c .before .before .before .before .before .before .before .pre in
+    record {
+      between = go-higher (a .keys .now) (a .bound) _ _ (at .inv .between) (p .rising) (at .mid) (w .0) (w .1) _ (c .before .before .posting-key .ensures) (omega (arith, c .before .if1 .taken));
+      within = c .probe-after .ensures;
+    }
 
 div-probe-before : tie.Need-div-probe-before Inv-loop μ-loop
-div-probe-before c = omega (arith, c .before .before .before .before .before .before .pre .0 .1 .1)
+div-probe-before c = omega (arith, c .before .before .before .before .before .before .pre .apart)
 
 probe-before-requires : tie.Need-probe-before-requires Inv-loop μ-loop
 probe-before-requires c κs = search needs
@@ -72,7 +76,11 @@ loop-again-2 c =
     let a = c .before .before .before .before .before .before .before .args in
     let at = c .before .before .before .before .before .loop in
     let w = at .inv .within (c .before .before .before .before .loop-test .taken) in
-    record { between = go-lower (a .keys .now) (a .bound) _ _ (at .inv .between) (c .before .before .before .before .before .before .before .pre .0 .0) (at .mid) (w .0) (w .1) _ (c .before .before .posting-key .ensures) (c .before .if1 .left); within = c .probe-before .ensures }
+    let p = c .before .before .before .before .before .before .before .pre in
+    record {
+      between = go-lower (a .keys .now) (a .bound) _ _ (at .inv .between) (p .rising) (at .mid) (w .0) (w .1) _ (c .before .before .posting-key .ensures) (omega (arith, c .before .if1 .left));
+      within = c .probe-before .ensures;
+    }
 
 returns : tie.Need-returns Inv-loop μ-loop
 returns c =

@@ -30,13 +30,13 @@ stepped c =
     let s = c .before .before .before .before .before .before in
     let a = s .args in
     let w = seed-oriented (a .strand) (a .sequence .now) (a .q) (a .start + 1) (s .pre .0) in
-    step (oriented (a .strand) (a .sequence .now)) (a .start) (a .q) (a .high) (a .key) _ _ w (s .pre .1) (c .before .before .oriented-code .ensures) (c .oriented-code2 .ensures)
+    step (oriented (a .strand) (a .sequence .now)) (a .start) (a .q) (a .high) (a .key) _ _ w (s .pre .1) (omega (arith, c .before .before .oriented-code .ensures)) (omega (arith, c .oriented-code2 .ensures))
 
 mul-result : tie.Need-mul-result
 mul-result c = omega (arith, stepped c .digit, stepped c .fits)
 
 sub-result : tie.Need-sub-result
-sub-result c = stepped c .digit
+sub-result c = omega (arith, stepped c .digit)
 
 mul-result-2 : tie.Need-mul-result-2
 mul-result-2 c = omega (arith, stepped c .room)
@@ -45,7 +45,7 @@ add-result : tie.Need-add-result
 add-result c = omega (arith, stepped c .room, stepped c .small)
 
 returns : tie.Need-returns
-returns c = stepped c .next
+returns c = omega (arith, stepped c .next)
 
 pub key-next-spec : {M : Type 1} → statement M
 key-next-spec =
