@@ -60,6 +60,16 @@ fn longer(step: u64) -> u64 {
     step * 2 + 1
 }
 
+// How many keys are thought to stand between two.
+fn keys_between(a: u64, b: u64, gap: u64) -> u64
+    requires { ⌜ 1 ≤ gap ⌝ }
+{
+    if a <= b {
+        return (b - a) / gap;
+    }
+    (a - b) / gap
+}
+
 // The first place from `from` on whose key is not below a bound, or the end. The search begins at `first`; keys are thought
 // to be `gap` apart.
 fn lower_bound(keys: &[u64], bound: u64, from: usize, first: usize, gap: u64) -> usize
@@ -76,10 +86,10 @@ fn lower_bound(keys: &[u64], bound: u64, from: usize, first: usize, gap: u64) ->
         let key = posting_key(keys, mid);
         if key < bound {
             low = mid + 1;
-            mid = probe_after(low, high, (bound - key) / gap, near);
+            mid = probe_after(low, high, keys_between(key, bound, gap), near);
         } else {
             high = mid;
-            mid = probe_before(low, high, (key - bound) / gap, near);
+            mid = probe_before(low, high, keys_between(bound, key, gap), near);
         }
     }
     low

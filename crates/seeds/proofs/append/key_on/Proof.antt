@@ -6,6 +6,7 @@ use Prim.Native.Nat.{_+_, _-_}
 use Rattle.seeds.specs.Window.{windowOf}
 use Rattle.seeds.specs.Key.{keyOf}
 use borrow.Author.Needs.{needs}
+use Rattle.seeds.proofs.Keying.{seed-in, seed-end}
 use Rattle.seeds.proofs.append.key_on.Statement.{statement}
 use Rattle.seeds.proofs.append.key_on.Tie as tie
 
@@ -21,8 +22,7 @@ sub-key-next c = search needs
 key-next-requires : tie.Need-key-next-requires
 key-next-requires c κs =
     let s = c .before .before in
-    let e : s .args .start - 1 + 1 ≡ s .args .start = omega arith in
-    (rw e (s .pre .0), s .pre .1)
+    (seed-in (s .args .sequence .now) (s .args .q) _ (s .pre .0 .size) (omega (arith, seed-end _ _ _ (s .pre .0))), s .pre .1)
 
 returns-2 : tie.Need-returns-2
 returns-2 c =
