@@ -172,10 +172,15 @@ module _ (floor offset : ℕ) where
   both-ways eligible eligible v w b f g p nv nw = ap (λ u. u then b) (same-verdict v w f g p (λ e. nv (ap (λ u. u then b) e)) (λ e. nw (ap (λ u. u then b) e)))
 
   -- eligibility does not depend on the read being turned, where neither way round is refused 16
-  pub eligibility-turned : (r : Read) → (eligibility floor offset (turned r) ≡ refused 16 → ⊥) → (eligibility floor offset r ≡ refused 16 → ⊥) → eligibility floor offset (turned r) ≡ eligibility floor offset r
+  abbrev Unturned : Read → Type 0
+  Unturned r = (eligibility floor offset (turned r) ≡ refused 16 → ⊥) → (eligibility floor offset r ≡ refused 16 → ⊥) → eligibility floor offset (turned r) ≡ eligibility floor offset r
+
+  pub eligibility-turned : (r : Read) → Unturned r
   unfolding eligibility
   eligibility-turned r = go (r .bases) (r .qualities)
     where
-      go : (bs : List ℕ) (q : Qualities) → (eligibility floor offset (turned (record { bases = bs; qualities = q })) ≡ refused 16 → ⊥) → (eligibility floor offset (record { bases = bs; qualities = q }) ≡ refused 16 → ⊥) → eligibility floor offset (turned (record { bases = bs; qualities = q })) ≡ eligibility floor offset (record { bases = bs; qualities = q })
+      go : (bs : List ℕ) (q : Qualities) → Unturned (record { bases = bs; qualities = q })
       go bs absent = λ nv nw. rw (empty-turned, letters-turned)
-      go bs (given qs) = rw (empty-turned, letters-turned, length-reverse-complement, length-reverse) (both-ways (emptyTest bs) (lengthTest qs bs) (qualitiesTest floor offset (reverse qs)) (qualitiesTest floor offset qs) (basesTest bs) (of-qualities (reverse qs)) (of-qualities qs) (passes-reversed qs))
+      go bs (given qs) =
+          rw (empty-turned, letters-turned, length-reverse-complement, length-reverse)
+          (both-ways (emptyTest bs) (lengthTest qs bs) (qualitiesTest floor offset (reverse qs)) (qualitiesTest floor offset qs) (basesTest bs) (of-qualities (reverse qs)) (of-qualities qs) (passes-reversed qs))

@@ -127,10 +127,12 @@ module _ (at q r : ℕ) (s ks₀ rs₀ os₀ : List ℕ) (n : ℕ) (room : Room 
   appending-room h = record { keys = omega (arith, room .keys, a .lengths .0); ranks = omega (arith, room .ranks, a .lengths .1); positions = omega (arith, room .positions, a .lengths .2) }
 
   -- the next posting is written
-  pub appending-next : i < n → (key′ rank position : ℕ) (ks′ rs′ os′ : List ℕ) → Stored (at + i) (posting key′ rank position ∷ []) ks rs os ks′ rs′ os′ → key′ ≡ keyOf (windowOf s i q) → rank ≡ r → position ≡ i → Appending at q r s ks₀ rs₀ os₀ n key′ (i + 1) ks′ rs′ os′
+  pub appending-next : i < n → (key′ rank position : ℕ) (ks′ rs′ os′ : List ℕ) → Stored (at + i) (posting key′ rank position ∷ []) ks rs os ks′ rs′ os′
+      → key′ ≡ keyOf (windowOf s i q) → rank ≡ r → position ≡ i → Appending at q r s ks₀ rs₀ os₀ n key′ (i + 1) ks′ rs′ os′
   appending-next h key′ rank position ks′ rs′ os′ w d e f =
       let l : length (seedsFrom q r s 0 i) ≡ i = length-seeds q r s 0 i in
-      let j = stored-join at (seedsFrom q r s 0 i) ks₀ rs₀ os₀ ks rs os (a .stored) (seedAt q r s i ∷ []) ks′ rs′ os′ (record { keys = omega (arith, room .keys); ranks = omega (arith, room .ranks); positions = omega (arith, room .positions) }) (rw l (rw (d, e, f) at w)) in
+      let g : Room at (length (seedsFrom q r s 0 i) + 1) ks₀ rs₀ os₀ = record { keys = omega (arith, room .keys); ranks = omega (arith, room .ranks); positions = omega (arith, room .positions) } in
+      let j = stored-join at (seedsFrom q r s 0 i) ks₀ rs₀ os₀ ks rs os (a .stored) (seedAt q r s i ∷ []) ks′ rs′ os′ g (rw l (rw (d, e, f) at w)) in
       let z : 0 + i ≡ i = omega arith in
       let more : seedsFrom q r s 0 i ++ (seedAt q r s i ∷ []) ≡ seedsFrom q r s 0 (i + 1) = sym (rw add-one (seeds-snoc q r s 0 i ∙ ap (λ k. seedsFrom q r s 0 i ++ (seedAt q r s k ∷ [])) z)) in
       let x : i + 1 - 1 ≡ i = omega arith in

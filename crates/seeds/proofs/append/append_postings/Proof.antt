@@ -65,7 +65,9 @@ loop-again : tie.Need-loop-again Inv-loop μ-loop
 loop-again c =
     let s = c .before .before .before .before .before .before .before .before .before .before .before .before .before .before .before .before .before .before .before .before in
     let t = c .before .before .before .before .before .before .before .before .before .before .before in
-    appending-next _ _ _ _ _ _ _ _ (s .pre .1) _ _ _ _ _ (t .before .loop .inv) (omega (arith, t .loop-test .taken)) _ _ _ _ _ _ (c .before .before .before .before .before .before .put .ensures) (c .before .before .before .before .before .before .before .before .before .before .key-on .ensures) (omega arith) (omega arith)
+    let k = c .before .before .before .before .before .before .before .before .before .before .key-on .ensures in
+    let p = c .before .before .before .before .before .before .put .ensures in
+    appending-next _ _ _ _ _ _ _ _ (s .pre .1) _ _ _ _ _ (t .before .loop .inv) (omega (arith, t .loop-test .taken)) _ _ _ _ _ _ p k (omega arith) (omega arith)
 
 add-result : tie.Need-add-result Inv-loop μ-loop
 add-result c = search needs

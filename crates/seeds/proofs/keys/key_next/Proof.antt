@@ -25,12 +25,16 @@ oriented-code-requires-2 : tie.Need-oriented-code-requires-2
 oriented-code-requires-2 c κs = c .before .before .before .table .ensures
 
 -- the step from the key at the start to the next one
-stepped : (c : lts.After-oriented-code2 (table-reads.Asked, table-reads.Learnt, code-reads.Asked, code-reads.Learnt) reads.Pre reads.Post) → Step (oriented (c .before .before .before .before .before .before .args .strand) (c .before .before .before .before .before .before .args .sequence .now)) (c .before .before .before .before .before .before .args .start) (c .before .before .before .before .before .before .args .q) (c .before .before .before .before .before .before .args .high) (c .before .before .before .before .before .before .args .key) (c .before .before .oriented-code .result) (c .oriented-code2 .result)
+stepped : (c : lts.After-oriented-code2 (table-reads.Asked, table-reads.Learnt, code-reads.Asked, code-reads.Learnt) reads.Pre reads.Post)
+    → let a = c .before .before .before .before .before .before .args in
+    Step (oriented (a .strand) (a .sequence .now)) (a .start) (a .q) (a .high) (a .key) (c .before .before .oriented-code .result) (c .oriented-code2 .result)
 stepped c =
     let s = c .before .before .before .before .before .before in
     let a = s .args in
     let w = seed-oriented (a .strand) (a .sequence .now) (a .q) (a .start + 1) (s .pre .0) in
-    step (oriented (a .strand) (a .sequence .now)) (a .start) (a .q) (a .high) (a .key) _ _ w (s .pre .1) (omega (arith, c .before .before .oriented-code .ensures)) (omega (arith, c .oriented-code2 .ensures))
+    let first = c .before .before .oriented-code .ensures in
+    let last = c .oriented-code2 .ensures in
+    step (oriented (a .strand) (a .sequence .now)) (a .start) (a .q) (a .high) (a .key) _ _ w (s .pre .1) (omega (arith, first)) (omega (arith, last))
 
 mul-result : tie.Need-mul-result
 mul-result c = omega (arith, stepped c .digit, stepped c .fits)
