@@ -64,9 +64,10 @@ pub fn append_postings(
     let mut key = key_at(sequence, 0, q, 0);
     let mut i = 0;
     while i < n {
+        let next = i + 1;
         key = key_on(sequence, q, i, high, key);
         put(keys, ranks, positions, at + i, key, rank, i);
-        i += 1;
+        i = next;
     }
     at + n
 }

@@ -42,6 +42,9 @@ key-at-requires c κs =
 loop-holds : tie.Need-loop-holds Inv-loop μ-loop
 loop-holds c = appending-start _ _ _ _ _ _ _ _ _ (c .key-at .ensures)
 
+add-next : tie.Need-add-next Inv-loop μ-loop
+add-next c = search needs
+
 key-on-requires : tie.Need-key-on-requires Inv-loop μ-loop
 key-on-requires c κs =
     let s = c .before .before .before .before .before .before .before .before .before in
@@ -54,9 +57,6 @@ put-requires : tie.Need-put-requires Inv-loop μ-loop
 put-requires c κs =
     let s = c .before .before .before .before .before .before .before .before .before .before .before .before .before in
     appending-room _ _ _ _ _ _ _ _ (s .pre .1) _ _ _ _ _ (c .before .before .before .before .before .loop .inv) (omega (arith, c .before .before .before .before .loop-test .taken))
-
-add-i : tie.Need-add-i Inv-loop μ-loop
-add-i c = search needs
 
 loop-less : tie.Need-loop-less Inv-loop μ-loop
 loop-less c = search needs
@@ -99,10 +99,10 @@ append-postings-spec =
     power-requires
     key-at-requires
     loop-holds
+    add-next
     key-on-requires
     add-put
     put-requires
-    add-i
     loop-less
     loop-again
     add-result
