@@ -10,18 +10,18 @@ use lib.ListN.{getD}
 use borrow.Author.Tests.{eqb-true, eqb-false, eq-eqb, ne-eqb, ltb-true, ltb-false, leb-true, le-leb, lt-leb}
 use Rattle.lists.specs.Filter.{every}
 use Rattle.lists.proofs.Cases.{by-test, clash, same-test, and-true, beq-true, eq-beq}
-use Rattle.lists.proofs.Below.{passesBelow, passes-at, tabulate, tabulate-at}
-use Rattle.bases.specs.Base.{A, C, G, T, beside, codes, complements, codeOf, complementOf, upperOf, isCapital, mark}
+use Rattle.lists.proofs.Below.{passesBelow, passes-at}
+use Rattle.bases.specs.Base.{A, C, G, T, beside, codes, complements, codeOf, complementOf, Table, upperOf, isCapital, mark}
 
 -- ---- the table
 
--- what the table holds of a byte
-abbrev pub rule : ℕ → ℕ
-rule b = codeOf b * 256 + complementOf b
+-- the entry of a byte is its code times 256, plus its complement
+abbrev entryRight : List ℕ → ℕ → Bool
+entryRight table b = eqb (getD table b 0) (codeOf b * 256 + complementOf b)
 
--- the rule at each byte of a table that is computed by it: a proof that cites this has antt compare all 256 entries
-pub table-at : (b : ℕ) → b < 256 → getD (tabulate rule 0 256) b 0 ≡ rule b
-table-at b h = tabulate-at rule 0 256 b h ∙ ap rule (omega arith)
+-- a table that passes this test at each of the 256 bytes has the rule at each
+pub table-right : (table : List ℕ) → passesBelow (entryRight table) 256 ≡ true → Table table
+table-right table t = record { holds = λ b h. eqb-true _ _ (passes-at (entryRight table) 256 t b h) }
 
 pub complement-byte : (b : ℕ) → b < 256 → complementOf b < 256
 unfolding complementOf

@@ -15,7 +15,7 @@ use Rattle.lists.proofs.Every.{every-at}
 use Rattle.lists.proofs.Places.{getD-map}
 use Rattle.lists.proofs.Reverse.{getD-reverse, map-reverse, every-reverse}
 use Rattle.bases.specs.Base.{codeOf, complementOf, upperOf, isCapital, mark}
-use Rattle.bases.specs.Read.{Qualities, absent, given, Read, reverseComplement, reversed, turned, oriented}
+use Rattle.bases.specs.Read.{folded, capitals, letters, reverseComplement, oriented, LettersAt, Qualities, absent, given, Read, reversed, turned}
 use Rattle.bases.specs.Eligibility.{Verdict, refused, ineligible, eligible, _then_, emptyTest, lengthTest, qualityTest, qualitiesTest, basesTest, eligibility}
 use Rattle.bases.proofs.Bytes.{bits-same, bits-paired, complement-twice, code-complement, upper-complement, case-kept, letter-complement}
 
@@ -60,7 +60,7 @@ module _ (bs : List ℕ) (i : ℕ) (h : i < length bs) where
   turned-case = ap (λ b. eqb (upperOf b) b) turned-at ∙ case-kept (getD bs (length bs - suc i) 0)
 
 -- the folded read of a turned read is the folded read turned
-pub folded-turned : (bs : List ℕ) → map upperOf (reverseComplement bs) ≡ reverseComplement (map upperOf bs)
+pub folded-turned : (bs : List ℕ) → folded (reverseComplement bs) ≡ reverseComplement (folded bs)
 unfolding reverseComplement
 folded-turned bs = map-reverse upperOf (map complementOf bs) ∙ ap reverse (go bs)
   where
@@ -84,15 +84,15 @@ on-minus (suc s) bs i ne h = ap codeOf (ap (λ n. complementOf (getD bs n 0)) (o
 
 -- ---- a letter against base i on a strand
 
-letters-at : (bs : List ℕ) → every isCapital (map upperOf bs) ≡ true → (i : ℕ) → i < length bs → isCapital (upperOf (getD bs i 0)) ≡ true
-letters-at bs t i h = ap isCapital (sym (getD-map upperOf 0 0 bs i h)) ∙ every-at isCapital 0 (map upperOf bs) t i (rw length-map h)
+letters-at : (bs : List ℕ) → letters bs ≡ true → (i : ℕ) → i < length bs → isCapital (upperOf (getD bs i 0)) ≡ true
+letters-at bs t i h = ap isCapital (sym (getD-map upperOf 0 0 bs i h)) ∙ every-at isCapital 0 (folded bs) t i (rw length-map h)
 
-module _ (x s : ℕ) (bs : List ℕ) (i : ℕ) (h : i < length bs) (letter : isCapital (upperOf x) ≡ true) (letters : every isCapital (map upperOf bs) ≡ true) where
+module _ (x s : ℕ) (bs : List ℕ) (i : ℕ) (a : LettersAt x bs i) where
   pub on-plus-agrees : s ≡ 0 → eqb (x % 32) (getD bs i 0 % 32) ≡ eqb (codeOf x) (codeOf (getD (oriented s bs) i 0))
-  on-plus-agrees e = bits-same x (getD bs i 0) letter (letters-at bs letters i h) ∙ ap (eqb (codeOf x)) (on-plus s bs i e)
+  on-plus-agrees e = bits-same x (getD bs i 0) (a .letter-right) (letters-at bs (a .letters-right) i (a .inside)) ∙ ap (eqb (codeOf x)) (on-plus s bs i e)
 
   pub on-minus-agrees : (s ≡ 0 → ⊥) → (eqb (x % 32 + getD bs (length bs - 1 - i) 0 % 32) 21 || eqb (x % 32 + getD bs (length bs - 1 - i) 0 % 32) 10) ≡ eqb (codeOf x) (codeOf (getD (oriented s bs) i 0))
-  on-minus-agrees ne = bits-paired x (getD bs (length bs - 1 - i) 0) letter (letters-at bs letters (length bs - 1 - i) (omega arith)) ∙ ap (eqb (codeOf x)) (on-minus s bs i ne h)
+  on-minus-agrees ne = bits-paired x (getD bs (length bs - 1 - i) 0) (a .letter-right) (letters-at bs (a .letters-right) (length bs - 1 - i) (omega (arith, a .inside))) ∙ ap (eqb (codeOf x)) (on-minus s bs i ne (a .inside))
 
 -- the first of two tests where it passes, the second where it does not
 pub first-sum : (n : ℕ) → n ≡ 21 → eqb n 21 ≡ (eqb n 21 || eqb n 10)
@@ -104,11 +104,11 @@ second-sum n ne = rw (ne-eqb n 21 ne)
 -- ---- eligibility
 
 -- the letters of a turned read are letters
-pub letters-turned : (bs : List ℕ) → every isCapital (map upperOf (reverseComplement bs)) ≡ every isCapital (map upperOf bs)
+pub letters-turned : (bs : List ℕ) → letters (reverseComplement bs) ≡ letters bs
 unfolding reverseComplement
-letters-turned bs = ap (every isCapital) (map-reverse upperOf (map complementOf bs)) ∙ every-reverse isCapital (map upperOf (map complementOf bs)) ∙ go bs
+letters-turned bs = ap capitals (map-reverse upperOf (map complementOf bs)) ∙ every-reverse isCapital (folded (map complementOf bs)) ∙ go bs
   where
-    go : (l : List ℕ) → every isCapital (map upperOf (map complementOf l)) ≡ every isCapital (map upperOf l)
+    go : (l : List ℕ) → letters (map complementOf l) ≡ letters l
     go [] = refl
     go (b ∷ l) = ap₂ {C = Bool} (λ x y. x && y) (letter-complement b) (go l)
 
@@ -172,10 +172,15 @@ module _ (floor offset : ℕ) where
   both-ways eligible eligible v w b f g p nv nw = ap (λ u. u then b) (same-verdict v w f g p (λ e. nv (ap (λ u. u then b) e)) (λ e. nw (ap (λ u. u then b) e)))
 
   -- eligibility does not depend on the read being turned, where neither way round is refused 16
-  pub eligibility-turned : (r : Read) → (eligibility floor offset (turned r) ≡ refused 16 → ⊥) → (eligibility floor offset r ≡ refused 16 → ⊥) → eligibility floor offset (turned r) ≡ eligibility floor offset r
+  abbrev Unturned : Read → Type 0
+  Unturned r = (eligibility floor offset (turned r) ≡ refused 16 → ⊥) → (eligibility floor offset r ≡ refused 16 → ⊥) → eligibility floor offset (turned r) ≡ eligibility floor offset r
+
+  pub eligibility-turned : (r : Read) → Unturned r
   unfolding eligibility
   eligibility-turned r = go (r .bases) (r .qualities)
     where
-      go : (bs : List ℕ) (q : Qualities) → (eligibility floor offset (turned (record { bases = bs; qualities = q })) ≡ refused 16 → ⊥) → (eligibility floor offset (record { bases = bs; qualities = q }) ≡ refused 16 → ⊥) → eligibility floor offset (turned (record { bases = bs; qualities = q })) ≡ eligibility floor offset (record { bases = bs; qualities = q })
+      go : (bs : List ℕ) (q : Qualities) → Unturned (record { bases = bs; qualities = q })
       go bs absent = λ nv nw. rw (empty-turned, letters-turned)
-      go bs (given qs) = rw (empty-turned, letters-turned, length-reverse-complement, length-reverse) (both-ways (emptyTest bs) (lengthTest qs bs) (qualitiesTest floor offset (reverse qs)) (qualitiesTest floor offset qs) (basesTest bs) (of-qualities (reverse qs)) (of-qualities qs) (passes-reversed qs))
+      go bs (given qs) =
+          rw (empty-turned, letters-turned, length-reverse-complement, length-reverse)
+          (both-ways (emptyTest bs) (lengthTest qs bs) (qualitiesTest floor offset (reverse qs)) (qualitiesTest floor offset qs) (basesTest bs) (of-qualities (reverse qs)) (of-qualities qs) (passes-reversed qs))

@@ -2,19 +2,17 @@
 -- Assumes nothing.
 use mathlib.Core.Path.{_≡_, refl, sym, ap, _∙_}
 use mathlib.Core.Bool.{Bool, true, false, cond, _&&_}
-use mathlib.Core.List.{List, [], _∷_, map}
+use mathlib.Core.List.{List, [], _∷_}
 use Prim.Native.Nat.{ℕ, suc, _+_, _-_, _<_, _≤_}
 use native.Mathlib.Omega.{arith}
 use native.Mathlib.Numerals.{add-one}
 use lib.ListN.{length, getD, drop}
 use lib.Seq.{drop-cons}
-use lib.Dec.{ltb, leb, eqb}
 use borrow.Author.Tests.{le-leb, lt-leb, lt-ltb, le-ltb, eq-eqb, ne-eqb}
 use types.Run.{OneOf, miss}
 use denote.Enum.Declared.{tagOf}
-use Rattle.lists.specs.Filter.{every}
 use Rattle.bases.specs.Base.{isCapital, upperOf, codeOf, mark}
-use Rattle.bases.specs.Read.{lent, readOf}
+use Rattle.bases.specs.Read.{letters, lent, readOf}
 use Rattle.bases.specs.Eligibility.{Verdict, refused, ineligible, eligible, verdictOf, _then_, emptyTest, qualityTest, qualitiesTest, givenTest, basesTest, eligibility}
 use Rattle.bases.specs.declared.eligibility.Eligibility.{Eligibility}
 use Rattle.bases.specs.declared.eligibility.Eligibility.the-variants.{EmptyRead, QualityLength, PhredByte, Ineligible, Eligible}
@@ -64,9 +62,6 @@ module _ (floor offset : ℕ) (qs : List ℕ) (i : ℕ) (h : i < length qs) (e :
   passes-on k = sym (goes-on e (qualitiesTest floor offset (drop (i + 1) qs)) k ∙ next)
 
 -- whether the bases from i on are all letters
-abbrev pub letters : List ℕ → Bool
-letters bs = every isCapital (map upperOf bs)
-
 module _ (bs : List ℕ) (i : ℕ) (h : i < length bs) where
   next-letter : letters (drop i bs) ≡ (isCapital (upperOf (getD bs i 0)) && letters (drop (i + 1) bs))
   next-letter = rw (add-one, drop-cons bs i 0)

@@ -1,12 +1,10 @@
 -- Which reads are eligible, and which refusal a read meets (REFERENCE.md, "Eligibility").
-use mathlib.Core.Bool.{Bool, true, false, cond, _&&_}
-use mathlib.Core.List.{List, [], _∷_, map}
+use mathlib.Core.Bool.{cond, _&&_}
+use mathlib.Core.List.{List, [], _∷_}
 use Prim.Native.Nat.{ℕ, _-_}
 use lib.ListN.{length}
 use lib.Dec.{ltb, leb, eqb}
-use Rattle.lists.specs.Filter.{every}
-use Rattle.bases.specs.Base.{isCapital, upperOf}
-use Rattle.bases.specs.Read.{Qualities, absent, given, Read}
+use Rattle.bases.specs.Read.{Qualities, absent, given, Read, letters}
 use Rattle.bases.specs.declared.eligibility.Eligibility.{Eligibility}
 use Rattle.bases.specs.declared.eligibility.Eligibility.the-variants.{EmptyRead, QualityLength, PhredByte, Ineligible, Eligible}
 
@@ -54,9 +52,9 @@ abbrev pub givenTest : ℕ → ℕ → Qualities → List ℕ → Verdict
 givenTest floor offset absent bs = eligible
 givenTest floor offset (given qs) bs = lengthTest qs bs then qualitiesTest floor offset qs
 
--- folded to upper case, each base is one of A, C, G, T
+-- each base is a letter of ACGT in either case
 abbrev pub basesTest : List ℕ → Verdict
-basesTest bs = cond (every isCapital (map upperOf bs)) eligible ineligible
+basesTest bs = cond (letters bs) eligible ineligible
 
 -- the verdict on a read, for a quality floor and the offset of the quality bytes
 unfoldable pub eligibility : ℕ → ℕ → Read → Verdict

@@ -3,7 +3,7 @@ ghost use mathlib.Core.Path.{_≡_};
 ghost use Rattle.bases.specs.Base.{codeOf, complementOf, Table};
 
 // The code of a byte that is no base.
-pub const MARK: u64 = 4;
+pub(crate) const MARK: u64 = 4;
 
 // For each byte its code times 256, plus its complement.
 const BASES: [u16; 256] = [
@@ -273,7 +273,7 @@ pub fn table() -> [u16; 256]
 }
 
 // The code of a base, by the table.
-pub fn code_in(table: &[u16; 256], b: u8) -> u64
+pub(crate) fn code_in(table: &[u16; 256], b: u8) -> u64
     requires { ⌜ Table (now table) ⌝ }
     ensures { λ r. ⌜ r ≡ codeOf b ⌝ }
 {
@@ -281,7 +281,7 @@ pub fn code_in(table: &[u16; 256], b: u8) -> u64
 }
 
 // The complement of a base, by the table.
-pub fn complement_in(table: &[u16; 256], b: u8) -> u8
+pub(crate) fn complement_in(table: &[u16; 256], b: u8) -> u8
     requires { ⌜ Table (now table) ⌝ }
     ensures { λ r. ⌜ r ≡ complementOf b ⌝ }
 {

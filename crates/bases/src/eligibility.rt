@@ -1,10 +1,7 @@
 // Which reads are eligible for placement (`eligible_normalized_read` of the Rust, without its copy).
 ghost use mathlib.Core.Path.{_≡_};
-ghost use mathlib.Core.List.{map};
-ghost use Rattle.lists.specs.Filter.{every};
 ghost use Rattle.promises.specs.Slice.{old};
-ghost use Rattle.bases.specs.Base.{isCapital, upperOf};
-ghost use Rattle.bases.specs.Read.{lent, readOf};
+ghost use Rattle.bases.specs.Read.{letters, lent, readOf};
 ghost use Rattle.bases.specs.Eligibility.{verdictOf, qualityTest, qualitiesTest, givenTest, eligibility};
 use crate::base::MARK;
 use crate::base::code_in;
@@ -52,7 +49,7 @@ fn judge_qualities(qualities: &[u8], floor: u8, offset: u8) -> Eligibility
 
 // Whether every byte is a letter of ACGT in either case.
 fn all_bases(bases: &[u8]) -> bool
-    ensures { λ r. ⌜ r ≡ every isCapital (map upperOf (old bases)) ⌝ }
+    ensures { λ r. ⌜ r ≡ letters (old bases) ⌝ }
 {
     let table = table();
     let mut i = 0;

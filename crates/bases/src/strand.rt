@@ -1,14 +1,10 @@
 // A read as it lies on a strand, read in place: backwards on '-', without a reversed copy.
 ghost use mathlib.Core.Path.{_≡_};
-ghost use mathlib.Core.Bool.{true};
-ghost use mathlib.Core.List.{map};
-ghost use Prim.Native.Nat.{_<_};
-ghost use lib.ListN.{length, getD};
+ghost use lib.ListN.{getD};
 ghost use lib.Dec.{eqb};
-ghost use Rattle.lists.specs.Filter.{every};
 ghost use Rattle.promises.specs.Slice.{old};
-ghost use Rattle.bases.specs.Base.{codeOf, upperOf, isCapital, Table};
-ghost use Rattle.bases.specs.Read.{oriented};
+ghost use Rattle.bases.specs.Base.{codeOf, Table};
+ghost use Rattle.bases.specs.Read.{oriented, LettersAt};
 use crate::base::MARK;
 use crate::base::code_in;
 use crate::base::complement_in;
@@ -31,7 +27,7 @@ pub fn oriented_code(table: &[u16; 256], bases: &[u8], strand: u64, i: usize) ->
 // Whether a letter is base i of the bases as they lie on a strand, in either case. The last five bits of a letter are 1, 3,
 // 7 and 20 for A, C, G and T; of these only complements have the sum 21 or 10.
 pub fn oriented_agrees(letter: u8, bases: &[u8], strand: u64, i: usize) -> bool
-    requires { ⌜ (i < length (now bases)) × ((isCapital (upperOf letter) ≡ true) × (every isCapital (map upperOf (now bases)) ≡ true)) ⌝ }
+    requires { ⌜ LettersAt letter (now bases) i ⌝ }
     ensures { λ r. ⌜ r ≡ eqb (codeOf letter) (codeOf (getD (oriented strand (old bases)) i 0)) ⌝ }
 {
     if strand != 0 {

@@ -28,14 +28,14 @@ use Rattle.lists.proofs.Triple.{Before, before-test, test-before}
 use Rattle.names.specs.Ordered.{numbers}
 use Rattle.names.proofs.Merging.{numbers-∈}
 use Rattle.bases.specs.Base.{upperOf}
-use Rattle.bases.specs.Read.{oriented}
+use Rattle.bases.specs.Read.{folded, oriented}
 use Rattle.bases.proofs.Bytes.{code-upper}
 use Rattle.columns.specs.Posting.{Posting, posting, earlier}
 use Rattle.seeds.specs.Key.{keyOf}
-use Rattle.seeds.specs.Seeds.{starts}
+use Rattle.seeds.specs.Window.{starts}
 use Rattle.index.specs.Index.{indexOf, isSeed}
 use Rattle.index.proofs.Indexing.{index-ascending, index-∈-seed, seed-∈-index}
-use Rattle.places.specs.Place.{Place, Fits, place, triple, before, folded, places, matches, groups}
+use Rattle.places.specs.Place.{Place, Fits, place, triple, before, places, matches, groups}
 use Rattle.places.proofs.Comparing.{oriented-folded}
 use Rattle.places.proofs.Placing.{before-order, before-total, place-eq, places-∈, ∈-places, places-ascending}
 use Rattle.candidates.specs.Search.{seedHits, seedCount, tried, fewest, rarest, chosen, lies, candidate, candidatesAt, candidates, comparable, compared}

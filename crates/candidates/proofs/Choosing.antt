@@ -14,7 +14,7 @@ use Rattle.lists.proofs.Cases.{by-test}
 use Rattle.lists.proofs.Filter.{filter-range}
 use Rattle.names.specs.Ordered.{numbers}
 use Rattle.seeds.specs.Key.{keyOf}
-use Rattle.seeds.specs.Seeds.{starts}
+use Rattle.seeds.specs.Window.{starts}
 use Rattle.lookup.specs.Range.{RangeOf}
 use Rattle.candidates.specs.Search.{tried, fewest, rarest, keyCount, offsetCount, Rarest}
 use Rattle.candidates.specs.Choosing.{Better}

@@ -13,7 +13,7 @@ use Rattle.names.specs.Ordered.{numbers}
 use Rattle.bases.specs.Read.{oriented}
 use Rattle.columns.specs.Posting.{Posting}
 use Rattle.seeds.specs.Key.{keyOf}
-use Rattle.seeds.specs.Seeds.{starts}
+use Rattle.seeds.specs.Window.{starts}
 use Rattle.lookup.specs.Range.{RangeOf}
 use Rattle.index.specs.Index.{indexOf, hits}
 use Rattle.places.specs.Place.{Place, place, before, places, matches}

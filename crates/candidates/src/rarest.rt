@@ -48,7 +48,7 @@ impl SeedChoice {
 
 // Looks the seeds of a read up, offset by offset, and stops after a lookup that finds none.
 pub fn rarest_seed(read: &[u8], strand: u64, keys: &[u64], q: usize) -> SeedChoice
-    requires { ⌜ SeedIn (length (now read)) q 0 × (Rising (now keys) × (length (now read) ≤ 65535)) ⌝ }
+    requires { ⌜ SeedIn (now read) q 0 × (Rising (now keys) × (length (now read) ≤ 65535)) ⌝ }
     ensures { λ r. ⌜ Rarest (old keys) q (oriented strand (old read)) (r .offset) (r .start) (r .end) (r .lookups) ⌝ }
 {
     let n = read.len() - q + 1;

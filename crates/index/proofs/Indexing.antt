@@ -25,7 +25,8 @@ use Rattle.columns.specs.Posting.{Posting, triple, earlier, rows, Columns}
 use Rattle.columns.specs.Parts.{row}
 use Rattle.columns.proofs.Rows.{none, rows-length, rows-at}
 use Rattle.seeds.specs.Key.{keyOf}
-use Rattle.seeds.specs.Seeds.{starts, seedAt, seedsFrom, seeds, keysOf, ranksOf, positionsOf}
+use Rattle.seeds.specs.Seeds.{seedAt, seedsFrom, seeds, keysOf, ranksOf, positionsOf}
+use Rattle.seeds.specs.Window.{starts}
 use Rattle.index.specs.Index.{allSeeds, indexOf, columnsOf, isSeed, RowsRight, Tells}
 use Rattle.index.proofs.Sorting.{rows-of, keys-rows, ranks-rows, positions-rows}
 

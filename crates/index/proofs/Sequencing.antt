@@ -15,9 +15,11 @@ use Rattle.lists.proofs.Places.{getD-map}
 use Rattle.lists.proofs.Cut.{cut-at, ends-at, length-window, startOf}
 use Rattle.catalogue.specs.Catalogue.{maxBases}
 use Rattle.columns.specs.Posting.{Posting}
-use Rattle.seeds.specs.Seeds.{starts, seeds, Stored, Room}
+use Rattle.seeds.specs.Seeds.{seeds, Stored, Room}
+use Rattle.seeds.specs.Window.{starts}
 use Rattle.seeds.proofs.Storing.{length-seeds, stored-none, stored-join}
-use Rattle.index.specs.Index.{allSeeds, rankedSequences, Lent, SeedLength}
+use Rattle.seeds.specs.Key.{SeedLength}
+use Rattle.index.specs.Index.{allSeeds, rankedSequences, Lent}
 
 -- ---- ranked sequences
 

@@ -14,7 +14,7 @@ use Rattle.lists.proofs.Cases.{clash, compare}
 use Rattle.columns.specs.Posting.{posting, earlier}
 use Rattle.columns.specs.Parts.{row}
 use Rattle.seeds.specs.Key.{keyOf}
-use Rattle.seeds.specs.Seeds.{starts}
+use Rattle.seeds.specs.Window.{starts}
 use Rattle.index.specs.Index.{isSeed, RowsRight, Climbs, Tells}
 
 -- ---- one seed

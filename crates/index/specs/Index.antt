@@ -15,8 +15,9 @@ use Rattle.bases.specs.Base.{isCapital}
 use Rattle.catalogue.specs.Catalogue.{Catalogue, Target, Valid, catalogueRefusal, mapped, maxTargets, maxBases}
 use Rattle.columns.specs.Posting.{Posting, earlier}
 use Rattle.columns.specs.Parts.{row}
-use Rattle.seeds.specs.Key.{keyOf}
-use Rattle.seeds.specs.Seeds.{starts, seeds, keysOf, ranksOf, positionsOf}
+use Rattle.seeds.specs.Key.{keyOf, maxSeed}
+use Rattle.seeds.specs.Seeds.{seeds, keysOf, ranksOf, positionsOf}
+use Rattle.seeds.specs.Window.{starts}
 
 -- every seed of sequences by rank, the first of which has rank r
 abbrev pub allSeeds : ℕ → ℕ → List (List ℕ) → List Posting
@@ -43,7 +44,7 @@ hits key ps = filter (λ (p : Posting). eqb (p .key) key) ps
 
 -- 1 where this fails
 abbrev pub seedRight : ℕ → Bool
-seedRight q = leb 1 q && leb q 31
+seedRight q = leb 1 q && leb q maxSeed
 
 -- plan: 1 to 4
 unfoldable pub planRefusal : ℕ → Catalogue → ℕ
@@ -82,11 +83,6 @@ pub record Lent (bases ends ranked : List ℕ) : Type 0 where
 -- no more starts than this in as many sequences of as many bases as a catalogue can have
 abbrev pub maxStarts : ℕ
 maxStarts = 68719476736
-
--- a seed length within its bound
-pub record SeedLength (q : ℕ) : Type 0 where
-  pub some : 1 ≤ q
-  pub most : q ≤ 31
 
 -- columns that hold the index of sequences
 pub record Indexed (q : ℕ) (ss : List (List ℕ)) (ks rs os : List ℕ) : Type 0 where

@@ -4,8 +4,9 @@ ghost use mathlib.Core.List.{[]};
 ghost use Prim.Native.Nat.{_<_};
 ghost use lib.ListN.{length, getD};
 ghost use Rattle.promises.specs.Slice.{old};
-ghost use Rattle.seeds.specs.Seeds.{starts};
-ghost use Rattle.index.specs.Index.{allSeeds, Lent, SeedLength, lentSequences};
+ghost use Rattle.seeds.specs.Window.{starts};
+ghost use Rattle.seeds.specs.Key.{SeedLength};
+ghost use Rattle.index.specs.Index.{allSeeds, Lent, lentSequences};
 use names::sequences::sequence_at;
 
 // The sequence of a rank.

@@ -27,10 +27,12 @@ use Rattle.catalogue.specs.declared.ranks.Ranking.{Ranking}
 use Rattle.catalogue.specs.declared.ranks.Ranking.the-variants.{Refused, Ranked}
 use Rattle.catalogue.proofs.Mapped.{mapped-∈, at-its-place}
 use Rattle.seeds.specs.Seeds.{keysOf, ranksOf, positionsOf}
-use Rattle.index.specs.Index.{indexOf, mappedSequences, rankedSequences, seedRight, planRefusal, indexRefusal, columnsOf, Lent, SeedLength, Indexed}
+use Rattle.seeds.specs.Key.{SeedLength}
+use Rattle.index.specs.Index.{indexOf, mappedSequences, rankedSequences, seedRight, planRefusal, indexRefusal, columnsOf, Lent, Indexed}
 use Rattle.postings.specs.Answers.{PlanRanked}
 use Rattle.postings.proofs.Planning.{plan-right, no-refusal, ranked-mapped, test-refused}
-use Rattle.places.specs.Place.{Place, maxRead, folded, groups}
+use Rattle.bases.specs.Read.{folded}
+use Rattle.places.specs.Place.{Place, maxRead, groups}
 use Rattle.scan.specs.Entries.{entryCount}
 use Rattle.search.specs.Bounds.{lengthRight, limitRight}
 use Rattle.search.specs.Work.{byIndex}

@@ -12,7 +12,7 @@ use Rattle.lists.specs.Member.{_∈_}
 use Rattle.lists.specs.Order.{StrictOrder, Ascending}
 use Rattle.lists.specs.Triple.{Triple, lexicographic}
 use Rattle.lists.specs.Cut.{window}
-use Rattle.bases.specs.Read.{oriented}
+use Rattle.bases.specs.Read.{folded, oriented}
 use Rattle.lists.proofs.Member.{getD-∈, ∈-getD, ∈-map, map-∈}
 use Rattle.lists.proofs.Order.{ascending-map, later-differs}
 use Rattle.lists.proofs.Places.{getD-map}
@@ -23,7 +23,7 @@ use Rattle.names.proofs.NameLaws.{place-order}
 use Rattle.catalogue.specs.Catalogue.{Catalogue, Target, Valid, names, targets, isMapped, byName, mapped}
 use Rattle.catalogue.proofs.Mapped.{mapped-∈, ∈-mapped, mapped-ascending, named-by-place}
 use Rattle.index.specs.Index.{mappedSequences}
-use Rattle.places.specs.Place.{Place, place, triple, before, folded, Fits, matches, groups}
+use Rattle.places.specs.Place.{Place, place, triple, before, Fits, matches, groups}
 use Rattle.places.proofs.Placing.{groups-∈, ∈-groups, groups-ascending}
 use Rattle.scan.specs.Entries.{entryOf, entriesOf}
 use Rattle.indexed_mapper.specs.Map.{suppliedPlaces}

@@ -10,10 +10,9 @@ use Rattle.lists.specs.Member.{_∈_}
 use Rattle.lists.specs.Order.{Ascending}
 use Rattle.lists.specs.Triple.{Triple, lexicographic}
 use Rattle.lists.specs.Cut.{window}
-use Rattle.bases.specs.Read.{oriented}
+use Rattle.bases.specs.Read.{folded, oriented}
 use Rattle.catalogue.specs.Catalogue.{Catalogue, Target, targets, isMapped}
 use Rattle.seeds.specs.Seeds.{placed}
-use Rattle.places.specs.Place.{folded}
 use Rattle.scan.specs.Entries.{entryOf, cleared}
 use Rattle.search.specs.Answer.{Row}
 use Rattle.indexed_mapper.specs.Map.{suppliedPlaces}

@@ -2,7 +2,8 @@
 ghost use mathlib.Core.Path.{_≡_};
 ghost use Rattle.promises.specs.Slice.{old, new};
 ghost use Rattle.catalogue.specs.Catalogue.{lentCatalogue};
-ghost use Rattle.index.specs.Index.{Lent, SeedLength, lentSequences};
+ghost use Rattle.seeds.specs.Key.{SeedLength};
+ghost use Rattle.index.specs.Index.{Lent, lentSequences};
 ghost use Rattle.search.specs.Steps.{Mappable};
 ghost use Rattle.indexed_mapper.specs.Map.{readRefusal, ReadMapped, IndexMapped, MapsTo};
 use catalogue::bounds::proper_sequence;

@@ -6,7 +6,7 @@ use mathlib.Core.List.{List, [], _∷_}
 use Prim.Native.Nat.{ℕ, zero, suc, _+_, _<_}
 use native.Mathlib.Omega.{arith}
 use lib.ListN.{length, getD, drop}
-use Rattle.lists.specs.Filter.{filter, consIf}
+use Rattle.lists.specs.Filter.{filter}
 use Rattle.lists.specs.Limit.{goOn, stopped}
 
 module _ {A : Type 0} (p : A → Bool) (d : A) where

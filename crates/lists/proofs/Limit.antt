@@ -7,8 +7,16 @@ use mathlib.Core.List.{List, [], _∷_, _++_}
 use Prim.Native.Nat.{ℕ, zero, suc, _-_, _≤_, _<_}
 use native.Mathlib.Omega.{arith}
 use lib.ListN.{length, take, length-take}
+use lib.Dec.{ltb}
 use Rattle.lists.specs.Filter.{filter, consIf}
 use Rattle.lists.specs.Limit.{goOn, stopped}
+
+-- the examples of specs/Limit
+stops-at-second : stopped (ltb 10) (7 ∷ 20 ∷ 8 ∷ 30 ∷ 9 ∷ 40 ∷ []) 1 ≡ 7 ∷ 20 ∷ 8 ∷ 30 ∷ []
+stops-at-second = refl
+
+looks-at-all : stopped (ltb 10) (7 ∷ 20 ∷ 8 ∷ 30 ∷ 9 ∷ 40 ∷ []) 3 ≡ 7 ∷ 20 ∷ 8 ∷ 30 ∷ 9 ∷ 40 ∷ []
+looks-at-all = refl
 
 module _ {A : Type 0} (p : A → Bool) where
   -- the matches of a stopped list are the first n + 1 of all matches

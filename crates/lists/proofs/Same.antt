@@ -9,7 +9,7 @@ use lib.ListN.{length, getD, take}
 use lib.Dec.{eqb}
 use borrow.Author.Tests.{eqb-true, eq-eqb}
 use Rattle.lists.specs.Same.{same}
-use Rattle.lists.proofs.Cases.{by-test, clash, and-true}
+use Rattle.lists.proofs.Cases.{clash, and-true}
 
 pub same-true : (xs ys : List ℕ) → same xs ys ≡ true → xs ≡ ys
 same-true [] [] t = refl
@@ -25,9 +25,6 @@ true-same xs ys e = rw e (go ys)
     go : (l : List ℕ) → same l l ≡ true
     go [] = refl
     go (x ∷ l) = rw (eq-eqb x x refl) (go l)
-
-pub same-false : (xs ys : List ℕ) → (xs ≡ ys → ⊥) → same xs ys ≡ false
-same-false xs ys ne = by-test (same xs ys) (λ t. absurd (ne (same-true xs ys t))) (λ t. t)
 
 -- ---- lists compared from the front
 

@@ -1,15 +1,13 @@
 -- Search in keys that do not fall, and the postings of a key.
 -- Assumes nothing.
-use mathlib.Core.Path.{_≡_, sym, ap, _∙_}
+use mathlib.Core.Path.{_≡_, ap}
 use mathlib.Core.Logic.{_⊎_, inl, inr}
 use mathlib.Core.List.{List}
 use Prim.Native.Nat.{ℕ, _+_, _-_, _<_, _≤_}
 use native.Mathlib.Omega.{arith}
-use lib.ListN.{length, getD, take, drop, length-map}
-use lib.Dec.{eqb}
-use borrow.Author.Tests.{eq-eqb, ne-eqb}
+use lib.ListN.{length, getD}
 use Rattle.lists.proofs.Cases.{compare}
-use Rattle.lookup.specs.Range.{Rising, BoundAt, BelowTo, RangeOf}
+use Rattle.lookup.specs.Range.{Rising, Within, BoundAt, BelowTo, RangeOf}
 
 -- the bound's place is between low and high
 pub record Between (ks : List ℕ) (bound low high : ℕ) : Type 0 where
@@ -21,7 +19,7 @@ pub record Between (ks : List ℕ) (bound low high : ℕ) : Type 0 where
 -- and so is the place to look at next
 pub record Probing (ks : List ℕ) (bound low high mid : ℕ) : Type 0 where
   pub between : Between ks bound low high
-  pub within : low < high → (low ≤ mid) × (mid < high)
+  pub within : Within low high mid
 
 module _ (ks : List ℕ) (bound : ℕ) where
   pub between-from : (from : ℕ) → BelowTo ks bound from → Between ks bound from (length ks)

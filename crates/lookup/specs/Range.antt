@@ -13,6 +13,18 @@ pub record BelowTo (ks : List ℕ) (bound n : ℕ) : Type 0 where
   pub inside : n ≤ length ks
   pub below : (i : ℕ) → i < n → getD ks i 0 < bound
 
+-- a place from low up to high, where there is one
+abbrev pub Within : ℕ → ℕ → ℕ → Type 0
+Within low high place = low < high → (low ≤ place) × (place < high)
+
+-- what a search for a bound starts from: keys that do not fall, of which those before `from` are below the bound; the place
+-- to look at first; and how far apart keys are thought to be
+pub record SearchFrom (ks : List ℕ) (bound from first gap : ℕ) : Type 0 where
+  pub rising : Rising ks
+  pub below : BelowTo ks bound from
+  pub within : Within from (length ks) first
+  pub apart : 1 ≤ gap
+
 -- where a bound stands in keys that do not fall
 pub record BoundAt (ks : List ℕ) (bound place : ℕ) : Type 0 where
   pub inside : place ≤ length ks

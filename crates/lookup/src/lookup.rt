@@ -1,10 +1,9 @@
 // The postings of a key in an index. A search starts where the spread of the keys lets it expect the key, and goes on from
 // there in steps that grow; a wrong expectation costs time and nothing else.
-ghost use mathlib.Core.Path.{_≡_};
 ghost use Prim.Native.Nat.{_<_, _≤_};
 ghost use lib.ListN.{length};
 ghost use Rattle.promises.specs.Slice.{old};
-ghost use Rattle.lookup.specs.Range.{Rising, BoundAt, BelowTo, RangeOf};
+ghost use Rattle.lookup.specs.Range.{Rising, Within, SearchFrom, BoundAt, RangeOf};
 use crate::read::posting_key;
 
 // The places from start up to end.
@@ -13,9 +12,9 @@ pub struct Range {
     pub end: usize,
 }
 
-// A place from low up to high: `by` and a step behind low, or the last one; the middle once steps are long.
+// A place from low up to high: `by` and a step behind low, or the last one; the middle once nine steps were made.
 fn probe_after(low: usize, high: usize, by: u64, step: u64) -> usize
-    ensures { λ r. ⌜ (low < high → (low ≤ r) × (r < high)) ⌝ }
+    ensures { λ r. ⌜ Within low high r ⌝ }
 {
     if high <= low {
         return low;
@@ -35,7 +34,7 @@ fn probe_after(low: usize, high: usize, by: u64, step: u64) -> usize
 
 // The same in front of high.
 fn probe_before(low: usize, high: usize, by: u64, step: u64) -> usize
-    ensures { λ r. ⌜ (low < high → (low ≤ r) × (r < high)) ⌝ }
+    ensures { λ r. ⌜ Within low high r ⌝ }
 {
     if high <= low {
         return low;
@@ -61,11 +60,20 @@ fn longer(step: u64) -> u64 {
     step * 2 + 1
 }
 
+// How many keys are thought to stand between two.
+fn keys_between(a: u64, b: u64, gap: u64) -> u64
+    requires { ⌜ 1 ≤ gap ⌝ }
+{
+    if a <= b {
+        return (b - a) / gap;
+    }
+    (a - b) / gap
+}
+
 // The first place from `from` on whose key is not below a bound, or the end. The search begins at `first`; keys are thought
 // to be `gap` apart.
 fn lower_bound(keys: &[u64], bound: u64, from: usize, first: usize, gap: u64) -> usize
-    requires { ⌜ Rising (now keys) × (BelowTo (now keys) bound from × (1 ≤ gap)) ⌝ }
-    requires { ⌜ (from < length (now keys) → (from ≤ first) × (first < length (now keys))) ⌝ }
+    requires { ⌜ SearchFrom (now keys) bound from first gap ⌝ }
     ensures { λ r. ⌜ BoundAt (old keys) bound r ⌝ }
 {
     let mut low = from;
@@ -78,10 +86,10 @@ fn lower_bound(keys: &[u64], bound: u64, from: usize, first: usize, gap: u64) ->
         let key = posting_key(keys, mid);
         if key < bound {
             low = mid + 1;
-            mid = probe_after(low, high, (bound - key) / gap, near);
+            mid = probe_after(low, high, keys_between(key, bound, gap), near);
         } else {
             high = mid;
-            mid = probe_before(low, high, (key - bound) / gap, near);
+            mid = probe_before(low, high, keys_between(bound, key, gap), near);
         }
     }
     low
@@ -89,7 +97,8 @@ fn lower_bound(keys: &[u64], bound: u64, from: usize, first: usize, gap: u64) ->
 
 // How far apart keys are on the whole, at least 1.
 fn typical_gap(keys: &[u64]) -> u64
-    requires { ⌜ Rising (now keys) × (0 < length (now keys)) ⌝ }
+    requires { ⌜ Rising (now keys) ⌝ }
+    requires { ⌜ 0 < length (now keys) ⌝ }
     ensures { λ r. ⌜ 1 ≤ r ⌝ }
 {
     let first = posting_key(keys, 0);

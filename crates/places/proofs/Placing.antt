@@ -15,7 +15,7 @@ use Rattle.lists.proofs.Member.{∈-append-left, ∈-append-right, append-∈}
 use Rattle.lists.proofs.Filter.{∈-filter, filter-∈}
 use Rattle.lists.proofs.Order.{order-by, ascending-append, ascending-filter}
 use Rattle.lists.proofs.Triple.{before-test, lexicographic-order, lexicographic-total}
-use Rattle.seeds.specs.Seeds.{starts}
+use Rattle.seeds.specs.Window.{starts}
 use Rattle.places.specs.Place.{Place, Fits, place, triple, before, placesIn, placesFrom, places, matches, groups}
 
 -- ---- the order of places

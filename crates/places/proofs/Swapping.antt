@@ -15,9 +15,9 @@ use Rattle.lists.specs.Cut.{window}
 use Rattle.lists.proofs.Member.{∈-map, map-∈}
 use Rattle.lists.proofs.Order.{ascending-unique, distinct-apart, later-differs}
 use Rattle.lists.proofs.Sort.{sort-ascending, ∈-sort, sort-∈}
-use Rattle.bases.specs.Read.{oriented, reverseComplement}
+use Rattle.bases.specs.Read.{folded, oriented, reverseComplement}
 use Rattle.bases.proofs.Turning.{reverse-complement-twice, length-reverse-complement, folded-turned}
-use Rattle.places.specs.Place.{Place, Fits, place, before, folded, matches, groups, swapped}
+use Rattle.places.specs.Place.{Place, Fits, place, before, matches, groups, swapped}
 use Rattle.places.proofs.Placing.{before-order, before-total, place-eq, groups-∈, ∈-groups, groups-ascending}
 
 pub swapped-twice : (p : Place) → p .strand < 2 → swapped (swapped p) ≡ p

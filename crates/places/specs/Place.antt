@@ -1,16 +1,15 @@
 -- Places of a read in sequences by rank, and where it matches (REFERENCE.md, "Places").
 use mathlib.Core.Path.{_≡_}
 use mathlib.Core.Bool.{Bool, true}
-use mathlib.Core.List.{List, [], _∷_, _++_, map}
+use mathlib.Core.List.{List, [], _∷_, _++_}
 use Prim.Native.Nat.{ℕ, zero, suc, _+_, _-_, _≤_, _<_}
 use lib.ListN.{length, getD, take}
-use Rattle.lists.specs.Filter.{filter, every}
+use Rattle.lists.specs.Filter.{filter}
 use Rattle.lists.specs.Same.{same}
 use Rattle.lists.specs.Triple.{Triple, lexicographic}
 use Rattle.lists.specs.Cut.{window}
-use Rattle.bases.specs.Base.{upperOf, isCapital}
-use Rattle.bases.specs.Read.{oriented}
-use Rattle.seeds.specs.Seeds.{starts}
+use Rattle.bases.specs.Read.{folded, capitals, letters, oriented}
+use Rattle.seeds.specs.Window.{starts}
 
 -- the rank of a sequence, a start in it, and the strand: 0 for '+', 1 for '-'
 pub record Place : Type 0 where
@@ -52,15 +51,11 @@ places n ss = placesFrom 0 n ss
 abbrev pub maxRead : ℕ
 maxRead = 65535
 
--- bases in upper case
-abbrev pub folded : List ℕ → List ℕ
-folded read = map upperOf read
-
 -- a read of letters in either case laid at a start of a sequence of capitals, within it
 pub record Laid (s : List ℕ) (start : ℕ) (read : List ℕ) : Type 0 where
   pub fits : start + length read ≤ length s
-  pub capitals : every isCapital s ≡ true
-  pub letters : every isCapital (folded read) ≡ true
+  pub capitals : capitals s ≡ true
+  pub letters : letters read ≡ true
 
 -- the first i bases of a read, in upper case and as it lies on a strand, stand at a start of a sequence
 abbrev pub standsTo : ℕ → List ℕ → ℕ → List ℕ → ℕ → Bool

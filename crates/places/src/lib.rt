@@ -6,8 +6,8 @@ ghost use lib.ListN.{length};
 ghost use Rattle.lists.specs.Same.{same};
 ghost use Rattle.lists.specs.Cut.{window};
 ghost use Rattle.promises.specs.Slice.{old};
-ghost use Rattle.bases.specs.Read.{oriented};
-ghost use Rattle.places.specs.Place.{folded, Laid, standsTo};
+ghost use Rattle.bases.specs.Read.{folded, oriented};
+ghost use Rattle.places.specs.Place.{Laid, standsTo};
 use bases::strand::oriented_agrees;
 
 // How many bases are compared at once: enough for a comparison of many bases by one instruction.

@@ -26,7 +26,8 @@ use Rattle.catalogue.proofs.Checks.{bounded}
 use Rattle.catalogue.proofs.Mapped.{mapped-∈, at-its-place}
 use Rattle.catalogue.proofs.Refusals.{valid}
 use Rattle.seeds.specs.Seeds.{keysOf, ranksOf, positionsOf, placed, Stored}
-use Rattle.index.specs.Index.{allSeeds, index, indexOf, mappedSequences, rankedSequences, seedRight, planRefusal, buildRefusal, indexRefusal, columnsOf, Lent, SeedLength}
+use Rattle.seeds.specs.Key.{SeedLength}
+use Rattle.index.specs.Index.{allSeeds, index, indexOf, mappedSequences, rankedSequences, seedRight, planRefusal, buildRefusal, indexRefusal, columnsOf, Lent}
 use Rattle.postings.specs.Answers.{planned, PlanRanked, entries, Builds, BuiltAs, BuiltFrom}
 use Rattle.postings.specs.declared.plan.Counts.{Counts}
 use Rattle.postings.specs.declared.plan.Built.{Built}

@@ -6,7 +6,7 @@ use Prim.Native.Nat.{ℕ, zero, suc, _+_, _-_, _*_, _≤_, _<_}
 use native.Mathlib.Omega.{arith}
 use lib.ListN.{length, getD, take, drop, length-append}
 use lib.Seq.{take-all}
-use Rattle.seeds.specs.Seeds.{starts}
+use Rattle.seeds.specs.Window.{starts}
 use Rattle.catalogue.specs.Catalogue.{maxTargets, maxBases}
 use Rattle.places.specs.Place.{Place, place, placesIn, placesFrom, places}
 use Rattle.scan.specs.Searched.{Going, Searched}

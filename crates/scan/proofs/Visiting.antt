@@ -11,11 +11,11 @@ use Rattle.lists.specs.Same.{same}
 use Rattle.lists.specs.Cut.{window}
 use Rattle.lists.proofs.Every.{every-at}
 use Rattle.bases.specs.Base.{isCapital}
-use Rattle.bases.specs.Read.{oriented}
+use Rattle.bases.specs.Read.{folded, oriented}
 use Rattle.catalogue.specs.Catalogue.{maxBases}
 use Rattle.index.specs.Index.{rankedSequences}
 use Rattle.index.proofs.Sequencing.{ranked-many, ranked-length}
-use Rattle.places.specs.Place.{Place, place, Fits, folded, matches}
+use Rattle.places.specs.Place.{Place, place, Fits, matches}
 use Rattle.scan.specs.Searched.{Searchable, Going, Searched}
 use Rattle.scan.proofs.Going.{searched-stop, searched-on, progress-going}
 

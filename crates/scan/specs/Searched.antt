@@ -4,19 +4,19 @@ use mathlib.Core.Bool.{true}
 use mathlib.Core.List.{List}
 use Prim.Native.Nat.{ℕ, _+_, _-_, _*_, _≤_}
 use lib.ListN.{length, take}
-use Rattle.lists.specs.Filter.{filter, every}
+use Rattle.lists.specs.Filter.{filter}
 use Rattle.lists.specs.Limit.{stopped}
-use Rattle.bases.specs.Base.{isCapital}
 use Rattle.seeds.specs.Seeds.{placed}
-use Rattle.index.specs.Index.{rankedSequences, Lent}
-use Rattle.places.specs.Place.{Place, folded, matches}
+use Rattle.index.specs.Index.{Lent}
+use Rattle.bases.specs.Read.{letters}
+use Rattle.places.specs.Place.{Place, maxRead, matches}
 use Rattle.scan.specs.Entries.{entriesOf}
 
 -- what a search is lent: sequences, and a read of letters in either case within its bound
 pub record Searchable (bases ends ranked read : List ℕ) : Type 0 where
   pub lent : Lent bases ends ranked
-  pub letters : every isCapital (folded read) ≡ true
-  pub short : length read ≤ 65535
+  pub letters : letters read ≡ true
+  pub short : length read ≤ maxRead
 
 -- no count of a search passes this, so that two of them can be added in 64 bits
 abbrev pub maxCount : ℕ

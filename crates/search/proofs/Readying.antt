@@ -11,7 +11,8 @@ use Rattle.bases.specs.Read.{oriented}
 use Rattle.bases.proofs.Turning.{length-oriented}
 use Rattle.names.specs.Ordered.{numbers}
 use Rattle.seeds.specs.Key.{SeedIn}
-use Rattle.seeds.specs.Seeds.{starts}
+use Rattle.seeds.specs.Window.{starts}
+use Rattle.seeds.proofs.Keying.{seed-in}
 use Rattle.lookup.specs.Range.{Rising}
 use Rattle.index.specs.Index.{indexOf, rankedSequences, maxStarts}
 use Rattle.index.proofs.Hits.{index-rising}
@@ -35,8 +36,8 @@ module _ (q : ℕ) (bases ends ranked ks rs os read : List ℕ) (ready : IndexSe
   pub ready-rising : Rising ks
   ready-rising = rw (ready .indexed .keys) (index-rising q (rankedSequences bases ends ranked))
 
-  pub ready-seed : SeedIn (length read) q 0
-  ready-seed = record { some = ready .seed .some; most = ready .seed .most; inside = omega arith }
+  pub ready-seed : SeedIn read q 0
+  ready-seed = seed-in read q 0 (ready .seed) (omega arith)
 
   ready-few : length (indexOf q (rankedSequences bases ends ranked)) ≤ maxStarts
   ready-few = index-few q bases ends ranked (ready .seed .some) (ready .searchable .lent)

@@ -20,7 +20,8 @@ use Rattle.bases.proofs.Turning.{length-oriented}
 use Rattle.columns.specs.Posting.{Posting}
 use Rattle.columns.proofs.Rows.{none}
 use Rattle.seeds.specs.Key.{keyOf}
-use Rattle.seeds.specs.Seeds.{starts, seeds, keysOf}
+use Rattle.seeds.specs.Seeds.{seeds, keysOf}
+use Rattle.seeds.specs.Window.{starts}
 use Rattle.catalogue.specs.Catalogue.{maxBases}
 use Rattle.seeds.proofs.Storing.{length-seeds}
 use Rattle.index.specs.Index.{allSeeds, indexOf, hits, rankedSequences, maxStarts, Lent, Indexed}

@@ -7,7 +7,8 @@ use lib.ListN.{length, take}
 use lib.Dec.{ltb}
 use Rattle.promises.specs.Refusal.{Outcome, refused, accepted}
 use Rattle.seeds.specs.Seeds.{placed}
-use Rattle.index.specs.Index.{rankedSequences, Lent, Indexed, SeedLength}
+use Rattle.seeds.specs.Key.{SeedLength}
+use Rattle.index.specs.Index.{rankedSequences, Lent, Indexed}
 use Rattle.places.specs.Place.{groups}
 use Rattle.candidates.specs.declared.rarest.SeedChoice.{SeedChoice}
 use Rattle.candidates.specs.declared.cursor.OrientationCursor.{OrientationCursor}

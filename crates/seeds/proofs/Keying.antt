@@ -9,15 +9,28 @@ use native.Mathlib.Numerals.{add-one, sub-one}
 use native.Mathlib.Omega.{arith}
 use lib.ListN.{length, getD, drop, length-append, length-drop}
 use lib.Seq.{take-suc, drop-cons, getD-drop}
-use Rattle.lists.specs.Filter.{every}
-use Rattle.lists.specs.Cut.{window}
+use Rattle.seeds.specs.Window.{windowOf}
 use Rattle.lists.proofs.Cases.{and-true}
 use Rattle.lists.proofs.Cut.{length-window}
 use Rattle.bases.specs.Base.{codeOf, upperOf, isCapital}
-use Rattle.bases.specs.Read.{oriented}
+use Rattle.bases.specs.Read.{letters, oriented}
 use Rattle.bases.proofs.Bytes.{code-le, letter-low}
 use Rattle.bases.proofs.Turning.{length-oriented}
-use Rattle.seeds.specs.Key.{keyOf, SeedIn}
+use Rattle.seeds.specs.Key.{keyOf, SeedLength, SeedIn, KeyHeld}
+use Rattle.seeds.proofs.Windows.{fits-end, end-fits}
+
+-- a seed within a sequence ends at most at the end
+module _ (s : List ℕ) (q start : ℕ) where
+  pub seed-in : SeedLength q → start + q ≤ length s → SeedIn s q start
+  seed-in size h = record { size = size; inside = end-fits q s start h }
+
+  pub seed-end : SeedIn s q start → start + q ≤ length s
+  seed-end i = fits-end q s start (i .inside)
+
+pub seed-oriented : (strand : ℕ) (bs : List ℕ) (q start : ℕ) → SeedIn bs q start → SeedIn (oriented strand bs) q start
+seed-oriented strand bs q start s = record { size = s .size; inside = rw length-oriented (s .inside) }
+
+-- ---- keys
 
 key-snoc : (w : List ℕ) (b : ℕ) → keyOf (w ++ (b ∷ [])) ≡ keyOf w * 4 + codeOf b
 unfolding keyOf
@@ -33,11 +46,11 @@ key-loose [] = omega arith
 key-loose (x ∷ w) = omega (arith, key-loose w, mul-le-mul-right (4 ^ length w) (code-le x), pow-suc 4 (length w))
 
 -- the key of q letters is below 4 to the power q
-pub key-below : (w : List ℕ) → every (λ b. isCapital (upperOf b)) w ≡ true → keyOf w < 4 ^ length w
+pub key-below : (w : List ℕ) → letters w ≡ true → keyOf w < 4 ^ length w
 unfolding keyOf
 key-below [] h = omega arith
 key-below (x ∷ w) h =
-    let a = and-true (isCapital (upperOf x)) (every (λ b. isCapital (upperOf b)) w) h in
+    let a = and-true (isCapital (upperOf x)) (letters w) h in
     let c : codeOf x ≤ 3 = omega (arith, letter-low x (a .0)) in
     omega (arith, key-below w (a .1), mul-le-mul-right (4 ^ length w) c, pow-suc 4 (length w))
 
@@ -59,20 +72,20 @@ four-room i h =
     omega arith
 
 -- one base more
-pub key-more : (l : List ℕ) (start i : ℕ) → start + i < length l → keyOf (window l start (i + 1)) ≡ keyOf (window l start i) * 4 + codeOf (getD l (start + i) 0)
+pub key-more : (l : List ℕ) (start i : ℕ) → start + i < length l → keyOf (windowOf l start (i + 1)) ≡ keyOf (windowOf l start i) * 4 + codeOf (getD l (start + i) 0)
 key-more l start i h =
     let r : i < length (drop start l) = rw length-drop (omega arith) in
-    rw (add-one, take-suc (drop start l) i 0 r, getD-drop) (key-snoc (window l start i) (getD l (start + i) 0))
+    rw (add-one, take-suc (drop start l) i 0 r, getD-drop) (key-snoc (windowOf l start i) (getD l (start + i) 0))
 
-pub more-room : (l : List ℕ) (start i : ℕ) → start + i ≤ length l → i ≤ 30 → keyOf (window l start i) * 4 + 4 < 2 ^ 64
-more-room l start i h k = key-room (window l start i) (omega (arith, length-window l start i h))
+pub more-room : (l : List ℕ) (start i : ℕ) → start + i ≤ length l → i ≤ 30 → keyOf (windowOf l start i) * 4 + 4 < 2 ^ 64
+more-room l start i h k = key-room (windowOf l start i) (omega (arith, length-window l start i h))
 
 -- the first digit
-key-first : (l : List ℕ) (start p : ℕ) → start + suc p ≤ length l → keyOf (window l start (suc p)) ≡ codeOf (getD l start 0) * 4 ^ p + keyOf (window l (start + 1) p)
+key-first : (l : List ℕ) (start p : ℕ) → start + suc p ≤ length l → keyOf (windowOf l start (suc p)) ≡ codeOf (getD l start 0) * 4 ^ p + keyOf (windowOf l (start + 1) p)
 unfolding keyOf
 key-first l start p h =
-    let e : window l start (suc p) ≡ getD l start 0 ∷ window l (start + 1) p = rw (drop-cons l start 0 (omega arith), add-one) in
-    let n : length (window l (start + 1) p) ≡ p = length-window l (start + 1) p (omega arith) in
+    let e : windowOf l start (suc p) ≡ getD l start 0 ∷ windowOf l (start + 1) p = rw (drop-cons l start 0 (omega arith), add-one) in
+    let n : length (windowOf l (start + 1) p) ≡ p = length-window l (start + 1) p (omega arith) in
     rw (e, n)
 
 -- the step to the next start: the key without its first digit, and one digit more at its end
@@ -81,44 +94,54 @@ pub record Step (l : List ℕ) (start q high key first last : ℕ) : Type 0 wher
   pub fits : key < 2 ^ 64
   pub room : (key - first * high) * 4 + 4 < 2 ^ 64
   pub small : last ≤ 4
-  pub next : (key - first * high) * 4 + last ≡ keyOf (window l (start + 1) q)
+  pub next : (key - first * high) * 4 + last ≡ keyOf (windowOf l (start + 1) q)
 
-step-by : (l : List ℕ) (start p : ℕ) → suc p ≤ 31 → start + 1 + suc p ≤ length l → Step l start (suc p) (4 ^ p) (keyOf (window l start (suc p))) (codeOf (getD l start 0)) (codeOf (getD l (start + suc p) 0))
+step-by : (l : List ℕ) (start p : ℕ) → suc p ≤ 31 → start + 1 + suc p ≤ length l → Step l start (suc p) (4 ^ p) (keyOf (windowOf l start (suc p))) (codeOf (getD l start 0)) (codeOf (getD l (start + suc p) 0))
 step-by l start p most h =
     let f = key-first l start p (omega arith) in
-    let rest : keyOf (window l start (suc p)) - codeOf (getD l start 0) * 4 ^ p ≡ keyOf (window l (start + 1) p) = omega arith in
-    let r = key-room (window l (start + 1) p) (omega (arith, length-window l (start + 1) p (omega arith))) in
+    let rest : keyOf (windowOf l start (suc p)) - codeOf (getD l start 0) * 4 ^ p ≡ keyOf (windowOf l (start + 1) p) = omega arith in
+    let r = key-room (windowOf l (start + 1) p) (omega (arith, length-window l (start + 1) p (omega arith))) in
     let e : start + 1 + p ≡ start + suc p = omega arith in
     record {
       digit = omega arith;
-      fits = key-fits (window l start (suc p)) (omega (arith, length-window l start (suc p) (omega arith)));
+      fits = key-fits (windowOf l start (suc p)) (omega (arith, length-window l start (suc p) (omega arith)));
       room = omega arith;
       small = code-le (getD l (start + suc p) 0);
       next = omega (arith, rw add-one at (key-more l (start + 1) p (omega arith)), ap (λ n. codeOf (getD l n 0)) e);
     }
 
-pub step : (l : List ℕ) (start q high key first last : ℕ) → 1 ≤ q → q ≤ 31 → start + 1 + q ≤ length l → high ≡ 4 ^ (q - 1) → key ≡ keyOf (window l start q) → first ≡ codeOf (getD l start 0) → last ≡ codeOf (getD l (start + q) 0) → Step l start q high key first last
-step l start zero high key first last some most h e f g k = absurd (omega arith)
-step l start (suc p) high key first last some most h e f g k = rw (e, f, g, k, sub-one) (step-by l start p most h)
+pub step : (l : List ℕ) (start q high key first last : ℕ) → SeedIn l q (start + 1) → KeyHeld l q start high key → first ≡ codeOf (getD l start 0) → last ≡ codeOf (getD l (start + q) 0) → Step l start q high key first last
+step l start zero high key first last s k f g = absurd (omega (arith, s .size .some))
+step l start (suc p) high key first last s k f g =
+    rw (k .first-digit, k .key-is, f, g, sub-one) (step-by l start p (s .size .most) (omega (arith, seed-end l (suc p) (start + 1) s)))
 
 -- a key under way: the first i digits
 pub record Digits (l : List ℕ) (start q key i : ℕ) : Type 0 where
   pub inside : i ≤ q
-  pub digits : key ≡ keyOf (window l start i)
+  pub digits : key ≡ keyOf (windowOf l start i)
 
 pub digits-start : (l : List ℕ) (start q : ℕ) → Digits l start q 0 0
 unfolding keyOf
 digits-start l start q = record { inside = omega arith; digits = refl }
 
-module _ (l : List ℕ) (start q key i : ℕ) (d : Digits l start q key i) (s : SeedIn (length l) q start) where
-  pub digits-room : i < q → key * 4 + 4 < 2 ^ 64
-  digits-room h = rw (d .digits) (more-room l start i (omega arith) (omega arith))
+-- the digit of one base more
+pub record Digit (l : List ℕ) (start q key i code : ℕ) : Type 0 where
+  pub room : key * 4 + 4 < 2 ^ 64
+  pub small : code ≤ 4
+  pub next : Digits l start q (key * 4 + code) (i + 1)
 
-  pub digits-next : i < q → (code : ℕ) → code ≡ codeOf (getD l (start + i) 0) → Digits l start q (key * 4 + code) (i + 1)
-  digits-next h code e = record { inside = omega arith; digits = omega (arith, key-more l start i (omega arith), d .digits) }
+module _ (strand : ℕ) (bs : List ℕ) (start q key i : ℕ) (s : SeedIn bs q start) (d : Digits (oriented strand bs) start q key i) where
+  seed-fits : start + q ≤ length (oriented strand bs)
+  seed-fits = seed-end (oriented strand bs) q start (seed-oriented strand bs q start s)
 
-  pub digits-end : q ≤ i → key ≡ keyOf (window l start q)
+  pub digits-next : i < q → (code : ℕ) → code ≡ codeOf (getD (oriented strand bs) (start + i) 0) → Digit (oriented strand bs) start q key i code
+  digits-next h code e =
+      let f = seed-fits in
+      record {
+        room = rw (d .digits) (more-room (oriented strand bs) start i (omega arith) (omega (arith, s .size .most)));
+        small = omega (arith, code-le (getD (oriented strand bs) (start + i) 0));
+        next = record { inside = omega arith; digits = omega (arith, key-more (oriented strand bs) start i (omega arith), d .digits) };
+      }
+
+  pub digits-end : q ≤ i → key ≡ keyOf (windowOf (oriented strand bs) start q)
   digits-end h = let e : i ≡ q = omega (arith, d .inside) in rw e at (d .digits)
-
-pub seed-oriented : (strand : ℕ) (bs : List ℕ) (q start : ℕ) → SeedIn (length bs) q start → SeedIn (length (oriented strand bs)) q start
-seed-oriented strand bs q start s = rw length-oriented s

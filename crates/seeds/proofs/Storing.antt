@@ -6,12 +6,12 @@ use Prim.Native.Nat.{ℕ, zero, suc, _+_, _-_, _<_, _≤_}
 use native.Mathlib.Omega.{arith}
 use native.Mathlib.Numerals.{add-one}
 use native.Mathlib.Nat.{add-zero}
-use lib.ListN.{length, getD, take, drop, set, length-append, length-drop, length-map, length-set, take-append-drop}
+use lib.ListN.{length, getD, take, drop, set, length-append, length-drop, length-map, take-append-drop}
 use lib.Seq.{drop-cons, set-at, append-snoc, length-take-le, take-at, drop-at, drop-drop}
-use Rattle.columns.specs.Posting.{Posting}
-use Rattle.lists.specs.Cut.{window}
+use Rattle.columns.specs.Posting.{Posting, posting}
+use Rattle.seeds.specs.Window.{windowOf}
 use Rattle.seeds.specs.Key.{keyOf}
-use Rattle.seeds.specs.Seeds.{starts, seedAt, seedsFrom, seeds, keysOf, ranksOf, positionsOf, placed, Stored, Room}
+use Rattle.seeds.specs.Seeds.{seedAt, seedsFrom, placed, Stored, Room}
 
 -- ---- one buffer
 
@@ -48,6 +48,12 @@ module _ (at : ℕ) where
         let n : at + length xs + length ys ≡ at + length (xs ++ ys) = omega (arith, length-append xs ys) in
         ap₂ (λ l r. l ++ ys ++ r) t d ∙ ap₂ (λ l m. l ++ drop m b) (append-assoc (take at b) xs ys) n
 
+  -- a single number
+  placed-one : (v : ℕ) (b : List ℕ) → at < length b → set b at v ≡ placed at (v ∷ []) b
+  placed-one v b h =
+      let z : at ≡ at + 0 = omega arith in
+      ap₂ (λ l n. set l n v) (placed-none b) z ∙ placed-snoc [] b v (omega arith)
+
 -- ---- seeds
 
 pub length-seeds : (q r : ℕ) (s : List ℕ) (i n : ℕ) → length (seedsFrom q r s i n) ≡ n
@@ -68,21 +74,16 @@ module _ (at : ℕ) where
   pub stored-none : (ks rs os : List ℕ) → Stored at [] ks rs os ks rs os
   stored-none ks rs os = record { keys = placed-none at ks; ranks = placed-none at rs; positions = placed-none at os }
 
-  -- one posting more in one column
-  column-snoc : (f : Posting → ℕ) (ps : List Posting) (p : Posting) (n : ℕ) (b b′ : List ℕ) → length ps ≡ n → at + n < length b → b′ ≡ placed at (map f ps) b → set b′ (at + n) (f p) ≡ placed at (map f (ps ++ (p ∷ []))) b
-  column-snoc f ps p n b b′ l h e =
-      let m : length (map f ps) ≡ n = length-map ps f ∙ l in
-      ap (λ k. set b′ (at + k) (f p)) (sym m) ∙ ap (λ c. set c (at + length (map f ps)) (f p)) e ∙ placed-snoc at (map f ps) b (f p) (omega arith) ∙ ap (λ l. placed at l b) (sym (map-append f ps (p ∷ [])))
+  -- one posting
+  pub stored-one : (key rank position : ℕ) (ks rs os : List ℕ) → Room at 1 ks rs os → Stored at (posting key rank position ∷ []) ks rs os (set ks at key) (set rs at rank) (set os at position)
+  stored-one key rank position ks rs os h =
+      record {
+        keys = placed-one at key ks (omega (arith, h .keys));
+        ranks = placed-one at rank rs (omega (arith, h .ranks));
+        positions = placed-one at position os (omega (arith, h .positions));
+      }
 
   module _ (ps : List Posting) (ks rs os ks′ rs′ os′ : List ℕ) (s : Stored at ps ks rs os ks′ rs′ os′) where
-    stored-snoc : (p : Posting) (n : ℕ) → length ps ≡ n → Room (at + n) 1 ks rs os → Stored at (ps ++ (p ∷ [])) ks rs os (set ks′ (at + n) (p .key)) (set rs′ (at + n) (p .rank)) (set os′ (at + n) (p .position))
-    stored-snoc p n l h =
-        record {
-          keys = column-snoc (λ (p : Posting). p .key) ps p n ks ks′ l (omega (arith, h .keys)) (s .keys);
-          ranks = column-snoc (λ (p : Posting). p .rank) ps p n rs rs′ l (omega (arith, h .ranks)) (s .ranks);
-          positions = column-snoc (λ (p : Posting). p .position) ps p n os os′ l (omega (arith, h .positions)) (s .positions);
-        }
-
     column-length : (f : Posting → ℕ) (b b′ : List ℕ) → at + length ps ≤ length b → b′ ≡ placed at (map f ps) b → length b′ ≡ length b
     column-length f b b′ h e = ap length e ∙ length-placed at (map f ps) b (omega (arith, length-map ps f))
 
@@ -111,14 +112,14 @@ module _ (at : ℕ) where
 -- the first i seeds of a sequence are stored, and the key is that of the last of them, or of the first
 pub record Appending (at q r : ℕ) (s ks₀ rs₀ os₀ : List ℕ) (n key i : ℕ) (ks rs os : List ℕ) : Type 0 where
   pub inside : i ≤ n
-  pub digits : key ≡ keyOf (window s (i - 1) q)
+  pub digits : key ≡ keyOf (windowOf s (i - 1) q)
   pub stored : Stored at (seedsFrom q r s 0 i) ks₀ rs₀ os₀ ks rs os
   pub lengths : (length ks ≡ length ks₀) × (length rs ≡ length rs₀) × (length os ≡ length os₀)
 
-pub appending-start : (at q r : ℕ) (s ks rs os : List ℕ) (n key : ℕ) → key ≡ keyOf (window s 0 q) → Appending at q r s ks rs os n key 0 ks rs os
+pub appending-start : (at q r : ℕ) (s ks rs os : List ℕ) (n key : ℕ) → key ≡ keyOf (windowOf s 0 q) → Appending at q r s ks rs os n key 0 ks rs os
 appending-start at q r s ks rs os n key d =
     let z : 0 ≡ 0 - 1 = refl in
-    record { inside = omega arith; digits = d ∙ ap (λ k. keyOf (window s k q)) z; stored = stored-none at ks rs os; lengths = (refl, refl, refl) }
+    record { inside = omega arith; digits = d ∙ ap (λ k. keyOf (windowOf s k q)) z; stored = stored-none at ks rs os; lengths = (refl, refl, refl) }
 
 module _ (at q r : ℕ) (s ks₀ rs₀ os₀ : List ℕ) (n : ℕ) (room : Room at n ks₀ rs₀ os₀) (key i : ℕ) (ks rs os : List ℕ) (a : Appending at q r s ks₀ rs₀ os₀ n key i ks rs os) where
   -- there is room for the next posting
@@ -126,19 +127,22 @@ module _ (at q r : ℕ) (s ks₀ rs₀ os₀ : List ℕ) (n : ℕ) (room : Room 
   appending-room h = record { keys = omega (arith, room .keys, a .lengths .0); ranks = omega (arith, room .ranks, a .lengths .1); positions = omega (arith, room .positions, a .lengths .2) }
 
   -- the next posting is written
-  pub appending-next : i < n → (key′ : ℕ) (ks′ rs′ os′ : List ℕ) → key′ ≡ keyOf (window s i q) → ks′ ≡ set ks (at + i) key′ → rs′ ≡ set rs (at + i) r → os′ ≡ set os (at + i) i → Appending at q r s ks₀ rs₀ os₀ n key′ (i + 1) ks′ rs′ os′
-  appending-next h key′ ks′ rs′ os′ d e f g =
+  pub appending-next : i < n → (key′ rank position : ℕ) (ks′ rs′ os′ : List ℕ) → Stored (at + i) (posting key′ rank position ∷ []) ks rs os ks′ rs′ os′
+      → key′ ≡ keyOf (windowOf s i q) → rank ≡ r → position ≡ i → Appending at q r s ks₀ rs₀ os₀ n key′ (i + 1) ks′ rs′ os′
+  appending-next h key′ rank position ks′ rs′ os′ w d e f =
       let l : length (seedsFrom q r s 0 i) ≡ i = length-seeds q r s 0 i in
-      let w = stored-snoc at (seedsFrom q r s 0 i) ks₀ rs₀ os₀ ks rs os (a .stored) (seedAt q r s i) i l (record { keys = omega (arith, room .keys); ranks = omega (arith, room .ranks); positions = omega (arith, room .positions) }) in
+      let g : Room at (length (seedsFrom q r s 0 i) + 1) ks₀ rs₀ os₀ = record { keys = omega (arith, room .keys); ranks = omega (arith, room .ranks); positions = omega (arith, room .positions) } in
+      let j = stored-join at (seedsFrom q r s 0 i) ks₀ rs₀ os₀ ks rs os (a .stored) (seedAt q r s i ∷ []) ks′ rs′ os′ g (rw l (rw (d, e, f) at w)) in
       let z : 0 + i ≡ i = omega arith in
       let more : seedsFrom q r s 0 i ++ (seedAt q r s i ∷ []) ≡ seedsFrom q r s 0 (i + 1) = sym (rw add-one (seeds-snoc q r s 0 i ∙ ap (λ k. seedsFrom q r s 0 i ++ (seedAt q r s k ∷ [])) z)) in
       let x : i + 1 - 1 ≡ i = omega arith in
-      let o = a .lengths in
+      let o = stored-lengths (at + i) (posting key′ rank position ∷ []) ks rs os ks′ rs′ os′ w (appending-room h) in
+      let k = a .lengths in
       record {
         inside = omega arith;
-        digits = d ∙ ap (λ k. keyOf (window s k q)) (sym x);
-        stored = rw (e, f, g, d, ← more) w;
-        lengths = (ap length e ∙ length-set ks (at + i) key′ ∙ o .0, ap length f ∙ length-set rs (at + i) r ∙ o .1, ap length g ∙ length-set os (at + i) i ∙ o .2);
+        digits = d ∙ ap (λ k. keyOf (windowOf s k q)) (sym x);
+        stored = rw (← more) j;
+        lengths = (o .0 ∙ k .0, o .1 ∙ k .1, o .2 ∙ k .2);
       }
 
   pub appending-end : n ≤ i → Stored at (seedsFrom q r s 0 n) ks₀ rs₀ os₀ ks rs os

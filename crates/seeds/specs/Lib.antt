@@ -1,2 +1,3 @@
+pub mod Window
 pub mod Key
 pub mod Seeds

@@ -1,19 +1,15 @@
 -- The seeds of a sequence as postings, and postings stored in columns (REFERENCE.md, "Postings").
 use mathlib.Core.Path.{_≡_}
 use mathlib.Core.List.{List, [], _∷_, _++_, map}
-use Prim.Native.Nat.{ℕ, zero, suc, _+_, _-_, _≤_}
+use Prim.Native.Nat.{ℕ, zero, suc, _+_, _≤_}
 use lib.ListN.{length, take, drop}
-use Rattle.lists.specs.Cut.{window}
 use Rattle.columns.specs.Posting.{Posting, posting}
+use Rattle.seeds.specs.Window.{windowOf, starts}
 use Rattle.seeds.specs.Key.{keyOf}
-
--- how many windows of q bases a sequence has
-abbrev pub starts : ℕ → List ℕ → ℕ
-starts q s = suc (length s) - q
 
 -- the seed of q bases at a start of a sequence of rank r
 abbrev pub seedAt : ℕ → ℕ → List ℕ → ℕ → Posting
-seedAt q r s i = posting (keyOf (window s i q)) r i
+seedAt q r s i = posting (keyOf (windowOf s i q)) r i
 
 -- n seeds from start i on
 abbrev pub seedsFrom : ℕ → ℕ → List ℕ → ℕ → ℕ → List Posting

@@ -1,11 +1,12 @@
 // The postings of one sequence, written into three columns.
 ghost use mathlib.Core.Path.{_≡_};
-ghost use Prim.Native.Nat.{_+_, _-_, _^_, _≤_};
-ghost use lib.ListN.{length, set};
-ghost use Rattle.lists.specs.Cut.{window};
+ghost use mathlib.Core.List.{[], _∷_};
+ghost use Prim.Native.Nat.{_+_, _-_};
 ghost use Rattle.promises.specs.Slice.{old, new};
-ghost use Rattle.seeds.specs.Key.{keyOf, SeedIn};
-ghost use Rattle.seeds.specs.Seeds.{starts, seeds, Stored, Room};
+ghost use Rattle.columns.specs.Posting.{posting};
+ghost use Rattle.seeds.specs.Window.{windowOf, starts};
+ghost use Rattle.seeds.specs.Key.{keyOf, SeedLength, SeedIn, KeyHeld};
+ghost use Rattle.seeds.specs.Seeds.{seeds, Stored, Room};
 use crate::keys::key_at;
 use crate::keys::key_next;
 use crate::keys::power;
@@ -21,7 +22,7 @@ fn put(
     position: usize,
 )
     requires { ⌜ Room at 1 (now keys) (now ranks) (now positions) ⌝ }
-    ensures { λ _. ⌜ (new keys ≡ set (old keys) at key) × (new ranks ≡ set (old ranks) at rank) × (new positions ≡ set (old positions) at position) ⌝ }
+    ensures { λ _. ⌜ Stored at (posting key rank position ∷ []) (old keys) (old ranks) (old positions) (new keys) (new ranks) (new positions) ⌝ }
 {
     keys[at] = key;
     ranks[at] = rank;
@@ -30,9 +31,9 @@ fn put(
 
 // The key at a start, from the key at the one before it; at the first start it is the key itself.
 fn key_on(sequence: &[u8], q: usize, start: usize, high: u64, key: u64) -> u64
-    requires { ⌜ SeedIn (length (now sequence)) q start ⌝ }
-    requires { ⌜ (high ≡ 4 ^ (q - 1)) × (key ≡ keyOf (window (now sequence) (start - 1) q)) ⌝ }
-    ensures { λ r. ⌜ r ≡ keyOf (window (old sequence) start q) ⌝ }
+    requires { ⌜ SeedIn (now sequence) q start ⌝ }
+    requires { ⌜ KeyHeld (now sequence) q (start - 1) high key ⌝ }
+    ensures { λ r. ⌜ r ≡ keyOf (windowOf (old sequence) start q) ⌝ }
 {
     if start == 0 {
         return key;
@@ -50,7 +51,7 @@ pub fn append_postings(
     q: usize,
     rank: u64,
 ) -> usize
-    requires { ⌜ (1 ≤ q) × (q ≤ 31) ⌝ }
+    requires { ⌜ SeedLength q ⌝ }
     requires { ⌜ Room at (starts q (now sequence)) (now keys) (now ranks) (now positions) ⌝ }
     ensures { λ r. ⌜ r ≡ at + starts q (old sequence) ⌝ }
     ensures { λ r. ⌜ Stored at (seeds q rank (old sequence)) (old keys) (old ranks) (old positions) (new keys) (new ranks) (new positions) ⌝ }
@@ -63,9 +64,10 @@ pub fn append_postings(
     let mut key = key_at(sequence, 0, q, 0);
     let mut i = 0;
     while i < n {
+        let next = i + 1;
         key = key_on(sequence, q, i, high, key);
         put(keys, ranks, positions, at + i, key, rank, i);
-        i += 1;
+        i = next;
     }
     at + n
 }

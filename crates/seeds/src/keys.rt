@@ -1,17 +1,16 @@
 // The key of a seed, computed afresh and rolled on by one base, for a sequence as it lies on a strand.
 ghost use mathlib.Core.Path.{_≡_};
-ghost use Prim.Native.Nat.{_+_, _-_, _^_, _<_};
-ghost use lib.ListN.{length};
-ghost use Rattle.lists.specs.Cut.{window};
+ghost use Prim.Native.Nat.{_+_, _^_, _<_};
 ghost use Rattle.promises.specs.Slice.{old};
 ghost use Rattle.bases.specs.Read.{oriented};
-ghost use Rattle.seeds.specs.Key.{keyOf, SeedIn};
+ghost use Rattle.seeds.specs.Window.{windowOf};
+ghost use Rattle.seeds.specs.Key.{keyOf, maxSeed, SeedIn, KeyHeld};
 use bases::base::table;
 use bases::strand::oriented_code;
 
 // 4 to the power n.
 pub fn power(n: usize) -> u64
-    requires { ⌜ n < 31 ⌝ }
+    requires { ⌜ n < maxSeed ⌝ }
     ensures { λ r. ⌜ r ≡ 4 ^ n ⌝ }
 {
     let mut p: u64 = 1;
@@ -25,14 +24,15 @@ pub fn power(n: usize) -> u64
 
 // The key of the q bases at a start.
 pub fn key_at(sequence: &[u8], strand: u64, q: usize, start: usize) -> u64
-    requires { ⌜ SeedIn (length (now sequence)) q start ⌝ }
-    ensures { λ r. ⌜ r ≡ keyOf (window (oriented strand (old sequence)) start q) ⌝ }
+    requires { ⌜ SeedIn (now sequence) q start ⌝ }
+    ensures { λ r. ⌜ r ≡ keyOf (windowOf (oriented strand (old sequence)) start q) ⌝ }
 {
     let table = table();
     let mut key: u64 = 0;
     let mut i = 0;
     while i < q {
-        key = key * 4 + oriented_code(&table, sequence, strand, start + i);
+        let code = oriented_code(&table, sequence, strand, start + i);
+        key = key * 4 + code;
         i += 1;
     }
     key
@@ -40,9 +40,9 @@ pub fn key_at(sequence: &[u8], strand: u64, q: usize, start: usize) -> u64
 
 // From the key at a start to the key at the next one; high is 4 to the power q - 1, what the first digit counts.
 pub fn key_next(sequence: &[u8], strand: u64, q: usize, start: usize, high: u64, key: u64) -> u64
-    requires { ⌜ SeedIn (length (now sequence)) q (start + 1) ⌝ }
-    requires { ⌜ (high ≡ 4 ^ (q - 1)) × (key ≡ keyOf (window (oriented strand (now sequence)) start q)) ⌝ }
-    ensures { λ r. ⌜ r ≡ keyOf (window (oriented strand (old sequence)) (start + 1) q) ⌝ }
+    requires { ⌜ SeedIn (now sequence) q (start + 1) ⌝ }
+    requires { ⌜ KeyHeld (oriented strand (now sequence)) q start high key ⌝ }
+    ensures { λ r. ⌜ r ≡ keyOf (windowOf (oriented strand (old sequence)) (start + 1) q) ⌝ }
 {
     let table = table();
     let first = oriented_code(&table, sequence, strand, start);

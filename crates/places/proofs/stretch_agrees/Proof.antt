@@ -30,7 +30,11 @@ shared-slice-read-oriented-agrees c = omega (arith, c .before .loop-test .taken,
 oriented-agrees-requires : tie.Need-oriented-agrees-requires Inv-loop μ-loop
 oriented-agrees-requires c κs =
     let s = c .before .before .before .before .before in
-    (omega (arith, c .before .loop-test .taken, s .pre .1 .1 .0), (letter-capital _ (every-at isCapital 0 (s .args .sequence .now) (s .pre .0 .capitals) _ (omega (arith, c .before .loop-test .taken, s .pre .0 .fits, s .pre .1 .1 .0))), s .pre .0 .letters))
+    record {
+      inside = omega (arith, c .before .loop-test .taken, s .pre .1 .1 .0);
+      letter-right = letter-capital _ (every-at isCapital 0 (s .args .sequence .now) (s .pre .0 .capitals) _ (omega (arith, c .before .loop-test .taken, s .pre .0 .fits, s .pre .1 .1 .0)));
+      letters-right = s .pre .0 .letters;
+    }
 
 add-i : tie.Need-add-i Inv-loop μ-loop
 add-i c = omega arith

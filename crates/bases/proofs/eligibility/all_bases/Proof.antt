@@ -5,7 +5,8 @@ use Prim.Native.Nat.{_-_, _≤_}
 use native.Mathlib.Omega.{arith}
 use borrow.Author.Needs.{needs}
 use lib.ListN.{length, drop, drop-of-length-le}
-use Rattle.bases.proofs.Verdicts.{letters, no-letter, a-letter}
+use Rattle.bases.specs.Read.{letters}
+use Rattle.bases.proofs.Verdicts.{no-letter, a-letter}
 use Rattle.bases.proofs.eligibility.all_bases.Statement.{statement}
 use Rattle.bases.proofs.eligibility.all_bases.Tie as tie
 

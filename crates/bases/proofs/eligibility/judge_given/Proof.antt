@@ -1,5 +1,6 @@
 -- `bases::eligibility::judge_given` meets its contract, by whether qualities are present and as many as the bases.
 -- Assumes nothing.
+use native.Mathlib.Omega.{arith}
 use mathlib.Core.Path.{_∙_}
 use borrow.Author.Tests.{not-true, not-false}
 use Rattle.bases.proofs.Verdicts.{none-given, other-length, same-length}
@@ -15,7 +16,7 @@ returns c =
 returns-2 : tie.Need-returns-2
 returns-2 c =
     let a = c .before .before .before .before .args in
-    other-length (a .floor) (a .offset) (a .bases .now) (a .present) (a .qualities .now) (not-false (a .present) (c .before .if1 .left)) (c .if2 .taken)
+    other-length (a .floor) (a .offset) (a .bases .now) (a .present) (a .qualities .now) (not-false (a .present) (c .before .if1 .left)) (λ e. omega arith)
 
 judge-qualities-requires : tie.Need-judge-qualities-requires
 judge-qualities-requires c κs = search needs
@@ -23,7 +24,7 @@ judge-qualities-requires c κs = search needs
 returns-3 : tie.Need-returns-3
 returns-3 c =
     let a = c .before .before .before .before .before .args in
-    c .judge-qualities .ensures ∙ same-length (a .floor) (a .offset) (a .bases .now) (a .present) (a .qualities .now) (not-false (a .present) (c .before .before .if1 .left)) (c .before .if2 .left)
+    c .judge-qualities .ensures ∙ same-length (a .floor) (a .offset) (a .bases .now) (a .present) (a .qualities .now) (not-false (a .present) (c .before .before .if1 .left)) (omega arith)
 
 pub judge-given-spec : {M : Type 1} → statement M
 judge-given-spec = tie.close (tie.spec returns returns-2 judge-qualities-requires returns-3)

@@ -31,7 +31,8 @@ enum-told c = c .match .keys1
 returns : tie.Need-returns Inv-loop μ-loop
 returns c =
     let a = c .before .before .before .before .before .before .args in
-    stops (a .floor) (a .offset) (a .qualities .now) _ (c .before .before .before .loop-test .taken) (c .before .judge-quality .result) (c .before .judge-quality .ensures) (c .match .keys2) ∙ sym (c .before .before .before .before .loop .inv .1)
+    let j = c .before .judge-quality in
+    stops (a .floor) (a .offset) (a .qualities .now) _ (c .before .before .before .loop-test .taken) (j .result) (j .ensures) (c .match .keys2) ∙ sym (c .before .before .before .before .loop .inv .1)
 
 add-i : tie.Need-add-i Inv-loop μ-loop
 add-i c = omega arith
@@ -42,7 +43,9 @@ loop-less c = omega arith
 loop-again : tie.Need-loop-again Inv-loop μ-loop
 loop-again c =
     let a = c .before .before .before .before .before .before .before .args in
-    (omega arith, c .before .before .before .before .before .loop .inv .1 ∙ passes-on (a .floor) (a .offset) (a .qualities .now) _ (c .before .before .before .before .loop-test .taken) (c .before .before .judge-quality .result) (c .before .before .judge-quality .ensures) (c .before .match .keys1))
+    let j = c .before .before .judge-quality in
+    let on = passes-on (a .floor) (a .offset) (a .qualities .now) _ (c .before .before .before .before .loop-test .taken) (j .result) (j .ensures) (c .before .match .keys1) in
+    (omega arith, c .before .before .before .before .before .loop .inv .1 ∙ on)
 
 returns-2 : tie.Need-returns-2 Inv-loop μ-loop
 returns-2 c = sym (c .before .loop .inv .1 ∙ ap (qualitiesTest _ _) (drop-of-length-le _ (c .loop-test .left)))

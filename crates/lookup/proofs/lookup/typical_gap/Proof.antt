@@ -1,6 +1,5 @@
--- `postings::lookup::typical_gap` meets its contract.
+-- `lookup::lookup::typical_gap` meets its contract.
 -- Assumes nothing.
-use lib.ListN.{length}
 use Rattle.lookup.proofs.Searching.{rising-ends}
 use borrow.Author.Needs.{needs}
 use Rattle.lookup.proofs.lookup.typical_gap.Statement.{statement}
@@ -18,7 +17,6 @@ posting-key-requires-2 c κs = search needs
 sub-gap : tie.Need-sub-gap
 sub-gap c =
     let a = c .before .before .before .args in
-    let n = length (a .keys .now) in
     rising-ends (a .keys .now) (c .before .before .before .pre .0) (c .before .before .before .pre .1) _ _ (c .before .posting-key .ensures) (c .posting-key2 .ensures)
 
 div-gap : tie.Need-div-gap

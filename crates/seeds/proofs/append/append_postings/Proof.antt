@@ -3,15 +3,15 @@
 use native.Mathlib.Omega.{arith}
 use borrow.Author.Needs.{needs}
 use mathlib.Core.Path.{_≡_}
-use Prim.Native.Nat.{_+_, _-_}
-use lib.ListN.{length}
-use Rattle.seeds.specs.Seeds.{starts, Room}
+use Prim.Native.Nat.{_-_}
+use Rattle.seeds.specs.Window.{starts}
+use Rattle.seeds.proofs.Keying.{seed-in}
 use Rattle.seeds.proofs.Storing.{Appending, appending-start, appending-room, appending-next, appending-end, stored-none}
 use Rattle.seeds.proofs.append.append_postings.Statement.{statement}
 use Rattle.seeds.proofs.append.append_postings.Tie as tie
 
 abbrev Inv-loop : tie.InvT-loop
-Inv-loop keys₀ ranks₀ positions₀ at sequence q rank n high key₀ i₀ keys ranks positions key i = Appending at q rank sequence keys₀ ranks₀ positions₀ n key i keys ranks positions
+Inv-loop keys₀ ranks₀ positions₀ at sequence q rank n high key₀ i₀ keys ranks positions key i = Appending at q rank sequence keys₀ ranks₀ positions₀ (starts q sequence) key i keys ranks positions
 
 abbrev μ-loop : tie.MeasureT-loop
 μ-loop keys₀ ranks₀ positions₀ at sequence q rank n high key₀ i₀ keys ranks positions key i = n - i
@@ -35,39 +35,39 @@ power-requires : tie.Need-power-requires Inv-loop μ-loop
 power-requires c κs = search needs
 
 key-at-requires : tie.Need-key-at-requires Inv-loop μ-loop
-key-at-requires c κs = search needs
+key-at-requires c κs =
+    let s = c .before .before .before .before .before .before in
+    seed-in (s .args .sequence .now) (s .args .q) 0 (s .pre .0) (omega arith)
 
 loop-holds : tie.Need-loop-holds Inv-loop μ-loop
 loop-holds c = appending-start _ _ _ _ _ _ _ _ _ (c .key-at .ensures)
 
+add-next : tie.Need-add-next Inv-loop μ-loop
+add-next c = search needs
+
 key-on-requires : tie.Need-key-on-requires Inv-loop μ-loop
-key-on-requires c κs = let i = c .before .loop .inv in (omega arith, (c .before .before .before .power .ensures, i .digits))
+key-on-requires c κs =
+    let s = c .before .before .before .before .before .before .before .before .before in
+    (seed-in (s .args .sequence .now) (s .args .q) (c .before .loop .i) (s .pre .0) (omega arith), record { first-digit = c .before .before .before .power .ensures; key-is = c .before .loop .inv .digits })
 
 add-put : tie.Need-add-put Inv-loop μ-loop
 add-put c = omega arith
 
 put-requires : tie.Need-put-requires Inv-loop μ-loop
 put-requires c κs =
-    let a = c .before .before .before .before .before .before .before .before .before .before .before .before .before .args in
-    let p = c .before .before .before .before .before .before .before .before .before .before .before .before .before .pre .1 in
-    let n = length (a .sequence .now) - a .q + 1 in
-    let room : Room (a .at) n (a .keys .now) (a .ranks .now) (a .positions .now) = record { keys = omega (arith, p .keys); ranks = omega (arith, p .ranks); positions = omega (arith, p .positions) } in
-    appending-room (a .at) (a .q) (a .rank) (a .sequence .now) (a .keys .now) (a .ranks .now) (a .positions .now) n room _ _ _ _ _ (c .before .before .before .before .before .loop .inv) (c .before .before .before .before .loop-test .taken)
-
-add-i : tie.Need-add-i Inv-loop μ-loop
-add-i c = search needs
+    let s = c .before .before .before .before .before .before .before .before .before .before .before .before .before in
+    appending-room _ _ _ _ _ _ _ _ (s .pre .1) _ _ _ _ _ (c .before .before .before .before .before .loop .inv) (omega (arith, c .before .before .before .before .loop-test .taken))
 
 loop-less : tie.Need-loop-less Inv-loop μ-loop
 loop-less c = search needs
 
 loop-again : tie.Need-loop-again Inv-loop μ-loop
 loop-again c =
-    let a = c .before .before .before .before .before .before .before .before .before .before .before .before .before .before .before .before .before .before .before .before .args in
-    let p = c .before .before .before .before .before .before .before .before .before .before .before .before .before .before .before .before .before .before .before .before .pre .1 in
-    let n = length (a .sequence .now) - a .q + 1 in
-    let room : Room (a .at) n (a .keys .now) (a .ranks .now) (a .positions .now) = record { keys = omega (arith, p .keys); ranks = omega (arith, p .ranks); positions = omega (arith, p .positions) } in
-    let e = c .before .before .before .before .before .before .put .ensures in
-    appending-next (a .at) (a .q) (a .rank) (a .sequence .now) (a .keys .now) (a .ranks .now) (a .positions .now) n room _ _ _ _ _ (c .before .before .before .before .before .before .before .before .before .before .before .before .loop .inv) (c .before .before .before .before .before .before .before .before .before .before .before .loop-test .taken) _ _ _ _ (c .before .before .before .before .before .before .before .before .before .before .key-on .ensures) (e .0) (e .1) (e .2)
+    let s = c .before .before .before .before .before .before .before .before .before .before .before .before .before .before .before .before .before .before .before .before in
+    let t = c .before .before .before .before .before .before .before .before .before .before .before in
+    let k = c .before .before .before .before .before .before .before .before .before .before .key-on .ensures in
+    let p = c .before .before .before .before .before .before .put .ensures in
+    appending-next _ _ _ _ _ _ _ _ (s .pre .1) _ _ _ _ _ (t .before .loop .inv) (omega (arith, t .loop-test .taken)) _ _ _ _ _ _ p k (omega arith) (omega arith)
 
 add-result : tie.Need-add-result Inv-loop μ-loop
 add-result c = search needs
@@ -83,12 +83,8 @@ same-length-3 c = c .before .loop .inv .lengths .2
 
 returns-2 : tie.Need-returns-2 Inv-loop μ-loop
 returns-2 c =
-    let a = c .before .before .before .before .before .before .before .before .before .args in
-    let p = c .before .before .before .before .before .before .before .before .before .pre .1 in
-    let n = length (a .sequence .now) - a .q + 1 in
-    let room : Room (a .at) n (a .keys .now) (a .ranks .now) (a .positions .now) = record { keys = omega (arith, p .keys); ranks = omega (arith, p .ranks); positions = omega (arith, p .positions) } in
-    let e : n ≡ starts (a .q) (a .sequence .now) = omega arith in
-    (omega arith, rw e at (appending-end (a .at) (a .q) (a .rank) (a .sequence .now) (a .keys .now) (a .ranks .now) (a .positions .now) n room _ _ _ _ _ (c .before .loop .inv) (c .loop-test .left)))
+    let s = c .before .before .before .before .before .before .before .before .before in
+    (omega arith, appending-end _ _ _ _ _ _ _ _ (s .pre .1) _ _ _ _ _ (c .before .loop .inv) (omega (arith, c .loop-test .left)))
 
 pub append-postings-spec : {M : Type 1} → statement M
 append-postings-spec =
@@ -103,10 +99,10 @@ append-postings-spec =
     power-requires
     key-at-requires
     loop-holds
+    add-next
     key-on-requires
     add-put
     put-requires
-    add-i
     loop-less
     loop-again
     add-result

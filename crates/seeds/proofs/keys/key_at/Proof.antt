@@ -2,11 +2,9 @@
 -- Assumes nothing.
 use native.Mathlib.Omega.{arith}
 use borrow.Author.Needs.{needs}
-use Prim.Native.Nat.{_+_, _-_}
-use lib.ListN.{getD}
+use Prim.Native.Nat.{_-_}
 use Rattle.bases.specs.Read.{oriented}
-use Rattle.bases.proofs.Bytes.{code-le}
-use Rattle.seeds.proofs.Keying.{Digits, digits-start, digits-room, digits-next, digits-end, seed-oriented}
+use Rattle.seeds.proofs.Keying.{seed-end, Digits, digits-start, digits-next, digits-end}
 use Rattle.seeds.proofs.keys.key_at.Statement.{statement}
 use Rattle.seeds.proofs.keys.key_at.Tie as tie
 
@@ -22,26 +20,23 @@ table-requires c κs = search needs
 loop-holds : tie.Need-loop-holds Inv-loop μ-loop
 loop-holds c = digits-start _ _ _
 
-mul-key : tie.Need-mul-key Inv-loop μ-loop
-mul-key c =
-    let a = c .before .before .before .before .args in
-    let l = oriented (a .strand) (a .sequence .now) in
-    let s = seed-oriented (a .strand) (a .sequence .now) (a .q) (a .start) (c .before .before .before .before .pre) in
-    omega (arith, digits-room l (a .start) (a .q) _ _ (c .before .loop .inv) s (c .loop-test .taken))
-
 add-oriented-code : tie.Need-add-oriented-code Inv-loop μ-loop
-add-oriented-code c = omega arith
+add-oriented-code c = omega (arith, seed-end _ _ _ (c .before .before .before .before .before .pre))
 
 oriented-code-requires : tie.Need-oriented-code-requires Inv-loop μ-loop
 oriented-code-requires c κs = c .before .before .before .table .ensures
 
+mul-key : tie.Need-mul-key Inv-loop μ-loop
+mul-key c =
+    let s = c .before .before .before .before .before .before in
+    let d = digits-next (s .args .strand) (s .args .sequence .now) (s .args .start) (s .args .q) _ _ (s .pre) (c .before .before .before .loop .inv) (c .before .before .loop-test .taken) _ (c .oriented-code .ensures) in
+    omega (arith, d .room, d .small)
+
 add-key : tie.Need-add-key Inv-loop μ-loop
 add-key c =
-    let a = c .before .before .before .before .before .before .args in
-    let l = oriented (a .strand) (a .sequence .now) in
-    let s = seed-oriented (a .strand) (a .sequence .now) (a .q) (a .start) (c .before .before .before .before .before .before .pre) in
-    let n = digits-next l (a .start) (a .q) _ _ (c .before .before .before .loop .inv) s (c .before .before .loop-test .taken) _ (c .oriented-code .ensures) in
-    omega (arith, digits-room l (a .start) (a .q) _ _ (c .before .before .before .loop .inv) s (c .before .before .loop-test .taken), c .oriented-code .ensures, code-le (getD l (a .start + c .before .before .before .loop .i) 0))
+    let s = c .before .before .before .before .before .before in
+    let d = digits-next (s .args .strand) (s .args .sequence .now) (s .args .start) (s .args .q) _ _ (s .pre) (c .before .before .before .loop .inv) (c .before .before .loop-test .taken) _ (c .oriented-code .ensures) in
+    omega (arith, d .room, d .small)
 
 add-i : tie.Need-add-i Inv-loop μ-loop
 add-i c = omega arith
@@ -51,17 +46,14 @@ loop-less c = omega arith
 
 loop-again : tie.Need-loop-again Inv-loop μ-loop
 loop-again c =
-    let a = c .before .before .before .before .before .before .args in
-    let l = oriented (a .strand) (a .sequence .now) in
-    let s = seed-oriented (a .strand) (a .sequence .now) (a .q) (a .start) (c .before .before .before .before .before .before .pre) in
-    digits-next l (a .start) (a .q) _ _ (c .before .before .before .loop .inv) s (c .before .before .loop-test .taken) _ (c .oriented-code .ensures)
+    let s = c .before .before .before .before .before .before in
+    let d = digits-next (s .args .strand) (s .args .sequence .now) (s .args .start) (s .args .q) _ _ (s .pre) (c .before .before .before .loop .inv) (c .before .before .loop-test .taken) _ (c .oriented-code .ensures) in
+    record { inside = omega (arith, d .next .inside); digits = omega (arith, d .next .digits) }
 
 returns : tie.Need-returns Inv-loop μ-loop
 returns c =
-    let a = c .before .before .before .before .args in
-    let l = oriented (a .strand) (a .sequence .now) in
-    let s = seed-oriented (a .strand) (a .sequence .now) (a .q) (a .start) (c .before .before .before .before .pre) in
-    digits-end l (a .start) (a .q) _ _ (c .before .loop .inv) s (c .loop-test .left)
+    let s = c .before .before .before .before in
+    digits-end (s .args .strand) (s .args .sequence .now) (s .args .start) (s .args .q) _ _ (s .pre) (c .before .loop .inv) (c .loop-test .left)
 
 pub key-at-spec : {M : Type 1} → statement M
 key-at-spec =
@@ -71,9 +63,9 @@ key-at-spec =
     μ-loop
     table-requires
     loop-holds
-    mul-key
     add-oriented-code
     oriented-code-requires
+    mul-key
     add-key
     add-i
     loop-less

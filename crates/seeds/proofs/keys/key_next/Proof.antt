@@ -3,7 +3,7 @@
 use native.Mathlib.Omega.{arith}
 use Prim.Native.Nat.{_+_}
 use Rattle.bases.specs.Read.{oriented}
-use Rattle.seeds.proofs.Keying.{Step, step, seed-oriented}
+use Rattle.seeds.proofs.Keying.{Step, step, seed-end, seed-oriented}
 use borrow.Author.Needs.{needs}
 use Rattle.seeds.proofs.keys.key_next.Statement.{statement}
 use Rattle.seeds.proofs.keys.key_next.Tie as tie
@@ -19,24 +19,28 @@ oriented-code-requires : tie.Need-oriented-code-requires
 oriented-code-requires c κs = c .before .table .ensures
 
 add-oriented-code : tie.Need-add-oriented-code
-add-oriented-code c = search needs
+add-oriented-code c = omega (arith, seed-end _ _ _ (c .before .before .before .before .before .pre .0))
 
 oriented-code-requires-2 : tie.Need-oriented-code-requires-2
 oriented-code-requires-2 c κs = c .before .before .before .table .ensures
 
 -- the step from the key at the start to the next one
-stepped : (c : lts.After-oriented-code2 (table-reads.Asked, table-reads.Learnt, code-reads.Asked, code-reads.Learnt) reads.Pre reads.Post) → Step (oriented (c .before .before .before .before .before .before .args .strand) (c .before .before .before .before .before .before .args .sequence .now)) (c .before .before .before .before .before .before .args .start) (c .before .before .before .before .before .before .args .q) (c .before .before .before .before .before .before .args .high) (c .before .before .before .before .before .before .args .key) (c .before .before .oriented-code .result) (c .oriented-code2 .result)
+stepped : (c : lts.After-oriented-code2 (table-reads.Asked, table-reads.Learnt, code-reads.Asked, code-reads.Learnt) reads.Pre reads.Post)
+    → let a = c .before .before .before .before .before .before .args in
+    Step (oriented (a .strand) (a .sequence .now)) (a .start) (a .q) (a .high) (a .key) (c .before .before .oriented-code .result) (c .oriented-code2 .result)
 stepped c =
     let s = c .before .before .before .before .before .before in
     let a = s .args in
     let w = seed-oriented (a .strand) (a .sequence .now) (a .q) (a .start + 1) (s .pre .0) in
-    step (oriented (a .strand) (a .sequence .now)) (a .start) (a .q) (a .high) (a .key) _ _ (w .some) (w .most) (w .inside) (s .pre .1 .0) (s .pre .1 .1) (c .before .before .oriented-code .ensures) (c .oriented-code2 .ensures)
+    let first = c .before .before .oriented-code .ensures in
+    let last = c .oriented-code2 .ensures in
+    step (oriented (a .strand) (a .sequence .now)) (a .start) (a .q) (a .high) (a .key) _ _ w (s .pre .1) (omega (arith, first)) (omega (arith, last))
 
 mul-result : tie.Need-mul-result
 mul-result c = omega (arith, stepped c .digit, stepped c .fits)
 
 sub-result : tie.Need-sub-result
-sub-result c = stepped c .digit
+sub-result c = omega (arith, stepped c .digit)
 
 mul-result-2 : tie.Need-mul-result-2
 mul-result-2 c = omega (arith, stepped c .room)
@@ -45,7 +49,7 @@ add-result : tie.Need-add-result
 add-result c = omega (arith, stepped c .room, stepped c .small)
 
 returns : tie.Need-returns
-returns c = stepped c .next
+returns c = omega (arith, stepped c .next)
 
 pub key-next-spec : {M : Type 1} → statement M
 key-next-spec =

@@ -1,0 +1,51 @@
+-- `seeds::append::put` meets its contract: one number stored in each column.
+-- Assumes nothing.
+use borrow.Author.Needs.{needs}
+use Rattle.seeds.proofs.Storing.{stored-one}
+use Rattle.seeds.proofs.append.put.Statement.{statement}
+use Rattle.seeds.proofs.append.put.Tie as tie
+
+mul-keys : tie.Need-mul-keys
+mul-keys c = search needs
+
+slice-write-keys : tie.Need-slice-write-keys
+slice-write-keys c = search needs
+
+mul-ranks : tie.Need-mul-ranks
+mul-ranks c = search needs
+
+slice-write-ranks : tie.Need-slice-write-ranks
+slice-write-ranks c = search needs
+
+mul-positions : tie.Need-mul-positions
+mul-positions c = search needs
+
+slice-write-positions : tie.Need-slice-write-positions
+slice-write-positions c = search needs
+
+same-length : tie.Need-same-length
+same-length c = search needs
+
+same-length-2 : tie.Need-same-length-2
+same-length-2 c = search needs
+
+same-length-3 : tie.Need-same-length-3
+same-length-3 c = search needs
+
+returns : tie.Need-returns
+returns c = stored-one _ _ _ _ _ _ _ (c .pre)
+
+pub put-spec : {M : Type 1} → statement M
+put-spec =
+    tie.close
+    (tie.spec
+    mul-keys
+    slice-write-keys
+    mul-ranks
+    slice-write-ranks
+    mul-positions
+    slice-write-positions
+    same-length
+    same-length-2
+    same-length-3
+    returns)
