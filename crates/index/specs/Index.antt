@@ -12,8 +12,7 @@ use Rattle.lists.specs.Cut.{cut, window, endsWithin}
 use Rattle.promises.specs.Slice.{Slice, old}
 use Rattle.promises.specs.Refusal.{unless, _orElse_}
 use Rattle.catalogue.specs.Catalogue.{Catalogue, Target, Valid, catalogueRefusal, mapped, maxTargets, maxBases}
-use Rattle.columns.specs.Posting.{Posting, earlier}
-use Rattle.columns.specs.Parts.{row}
+use Rattle.columns.specs.Posting.{Posting, earlier, row}
 use Rattle.seeds.specs.Key.{keyOf}
 use Rattle.seeds.specs.Seeds.{starts, seeds, keysOf, ranksOf, positionsOf}
 
