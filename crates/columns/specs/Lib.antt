@@ -1,2 +1,3 @@
 pub mod Posting
-pub mod Parts
+pub mod Sorted
+pub mod Exchange

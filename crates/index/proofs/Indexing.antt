@@ -10,36 +10,25 @@ use lib.ListN.{length, getD, length-map}
 use lib.Dec.{ltb, eqb}
 use borrow.Author.Tests.{ltb-true, lt-ltb, eqb-true, eq-eqb}
 use Rattle.lists.specs.Member.{_∈_}
-use Rattle.lists.specs.Order.{StrictOrder, Total, Apart, Ascending}
+use Rattle.lists.specs.Order.{Apart, Ascending}
 use Rattle.lists.specs.Same.{same}
 use Rattle.lists.specs.Triple.{lexicographic}
 use Rattle.lists.specs.Cut.{window}
 use Rattle.lists.proofs.Cases.{by-test, clash, and-true, same-test}
 use Rattle.lists.proofs.Member.{∈-append-left, ∈-append-right, append-∈, getD-∈, ∈-getD}
-use Rattle.lists.proofs.Order.{order-by, ascending-append, ascending-apart, ascending-at, steps-ascending}
+use Rattle.lists.proofs.Order.{ascending-append, ascending-apart, ascending-at, steps-ascending}
 use Rattle.lists.proofs.Sort.{length-sort, sort-ascending, ∈-sort, sort-∈}
 use Rattle.lists.proofs.Part.{part-whole}
 use Rattle.lists.proofs.Same.{same-true, true-same}
-use Rattle.lists.proofs.Triple.{before-test, lexicographic-order, lexicographic-total}
-use Rattle.columns.specs.Posting.{Posting, triple, earlier, rows, Columns}
-use Rattle.columns.specs.Parts.{row}
+use Rattle.lists.proofs.Triple.{before-test, lexicographic-order}
+use Rattle.columns.specs.Posting.{Posting, earlier, rows, row, Columns}
 use Rattle.columns.proofs.Rows.{none, rows-length, rows-at}
+use Rattle.columns.proofs.Order.{earlier-order, earlier-total, posting-eq}
 use Rattle.seeds.specs.Key.{keyOf}
 use Rattle.seeds.specs.Seeds.{seedAt, seedsFrom, seeds, keysOf, ranksOf, positionsOf}
 use Rattle.seeds.specs.Window.{starts}
 use Rattle.index.specs.Index.{allSeeds, indexOf, columnsOf, isSeed, RowsRight, Tells}
 use Rattle.index.proofs.Sorting.{rows-of, keys-rows, ranks-rows, positions-rows}
-
--- ---- the order of postings
-
-pub earlier-order : StrictOrder earlier
-earlier-order = order-by triple lexicographic-order
-
-posting-eq : (p q : Posting) → triple p ≡ triple q → p ≡ q
-posting-eq p q e = λ i. record { key = e i .0; rank = e i .1; position = e i .2 }
-
-pub earlier-total : Total earlier
-earlier-total p q h k = posting-eq p q (lexicographic-total (triple p) (triple q) h k)
 
 -- ---- the members of all seeds
 

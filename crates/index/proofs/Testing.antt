@@ -11,8 +11,7 @@ use lib.Dec.{ltb, eqb}
 use borrow.Author.Tests.{lt-ltb, le-ltb}
 use Rattle.lists.specs.Cut.{window}
 use Rattle.lists.proofs.Cases.{clash, compare}
-use Rattle.columns.specs.Posting.{posting, earlier}
-use Rattle.columns.specs.Parts.{row}
+use Rattle.columns.specs.Posting.{posting, earlier, row}
 use Rattle.seeds.specs.Key.{keyOf}
 use Rattle.seeds.specs.Window.{starts}
 use Rattle.index.specs.Index.{isSeed, RowsRight, Climbs, Tells}

@@ -13,8 +13,7 @@ use Rattle.promises.specs.Slice.{Slice, old}
 use Rattle.promises.specs.Refusal.{unless, _orElse_}
 use Rattle.bases.specs.Base.{isCapital}
 use Rattle.catalogue.specs.Catalogue.{Catalogue, Target, Valid, catalogueRefusal, mapped, maxTargets, maxBases}
-use Rattle.columns.specs.Posting.{Posting, earlier}
-use Rattle.columns.specs.Parts.{row}
+use Rattle.columns.specs.Posting.{Posting, earlier, row}
 use Rattle.seeds.specs.Key.{keyOf, maxSeed}
 use Rattle.seeds.specs.Seeds.{seeds, keysOf, ranksOf, positionsOf}
 use Rattle.seeds.specs.Window.{starts}

@@ -7,8 +7,8 @@ ghost use Rattle.seeds.specs.Seeds.{Stored, Room};
 ghost use Rattle.seeds.specs.Key.{SeedLength};
 ghost use Rattle.index.specs.Index.{rankedSequences, allSeeds, indexOf, Lent, lentSequences};
 use crate::ranked::ranked_sequence;
-use columns::sort_postings;
 use seeds::append::append_postings;
+use sorting::sort_postings;
 
 // Writes the postings of every ranked sequence, and answers how many there are.
 fn append_all(
