@@ -41,7 +41,7 @@ loop-less c = search needs
 loop-again : tie.Need-loop-again Inv-loop μ-loop
 loop-again c =
     let a = c .before .before .before .before .before .before .before .before .before .before .args in
-    filtering-next (linearAt (a .marks .now)) (a .order .now) (c .before .before .before .before .before .before .before .loop .order) _ _ (c .before .before .before .before .before .before .before .loop .inv) (omega (arith, c .before .before .before .before .before .before .before .loop .inv .long)) _ _ (c .before .before .keep-place .ensures .0) (c .before .before .keep-place .ensures .1)
+    filtering-next (linearAt (a .marks .now)) (a .order .now) (c .before .before .before .before .before .before .before .loop .order) _ _ (c .before .before .before .before .before .before .before .loop .inv) (omega (arith, c .before .before .before .before .before .before .before .loop .inv .long)) _ _ (c .before .before .keep-place .ensures .count) (c .before .before .keep-place .ensures .places)
 
 same-length : tie.Need-same-length Inv-loop μ-loop
 same-length c = omega arith

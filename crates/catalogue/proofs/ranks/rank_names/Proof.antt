@@ -29,7 +29,7 @@ keep-linear-requires c κs =
     let s = c .before .before .before .before .before .before .before .before .before .before in
     let ns = cut (s .args .ends .now) (s .args .identifiers .now) in
     let o = c .before .before .before .before .order-names .ensures in
-    ap (every _) (o .places (not-false _ (c .before .if1 .left))) ∙ places-below ns _ (omega (arith, length-cut 0 (s .args .ends .now) (s .args .identifiers .now), s .pre .1 .1 .0))
+    ap (every _) (o .places (not-false _ (c .before .if1 .left))) ∙ places-below ns _ (omega (arith, length-cut 0 (s .args .ends .now) (s .args .identifiers .now), s .pre .marked))
 
 same-length-2 : tie.Need-same-length-2
 same-length-2 c = search needs

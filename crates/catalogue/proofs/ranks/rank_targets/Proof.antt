@@ -39,7 +39,7 @@ rank-names-requires : tie.Need-rank-names-requires
 rank-names-requires c κs =
     let t = c .before in
     let b = bounded _ (sym (t .before .before .before .in-bounds .ensures) ∙ not-false _ (t .before .before .if1 .left)) in
-    (b .named, (length-take-le _ _ (omega (arith, b .few, t .before .before .before .before .before .before .before .before .before .before .pre)), (b .marked, b .few)))
+    record { lent = record { right = b .named; sized = length-take-le _ _ (omega (arith, b .few, t .before .before .before .before .before .before .before .before .before .before .pre)); few = b .few }; marked = b .marked }
 
 same-length : tie.Need-same-length
 same-length c = search needs
@@ -50,7 +50,7 @@ returns-3 c =
     let w = sym (t .before .before .before .in-bounds .ensures) ∙ not-false _ (t .before .before .if1 .left) in
     let p = sym (t .before .all-proper .ensures) ∙ not-false _ (t .if2 .left) in
     let r = c .before .before .rank-names in
-    ranked-as _ w p (r .result) (r .last .0) _ (r .kept .0 ∙ length-take-le _ _ (omega (arith, bounded _ w .few, t .before .before .before .before .before .before .before .before .before .before .pre))) (r .ensures)
+    ranked-as _ w p _ (r .ensures)
 
 pub rank-targets-spec : {M : Type 1} → statement M
 rank-targets-spec =
