@@ -14,7 +14,6 @@ use Rattle.lists.specs.Sort.{sort}
 use Rattle.lists.proofs.Cases.{by-test}
 use Rattle.lists.proofs.Every.{∈-every}
 use Rattle.lists.proofs.Sort.{sort-∈}
-use Rattle.lists.proofs.Cut.{length-cut}
 use Rattle.promises.specs.Refusal.{unless, _orElse_, accepted, outcome}
 use Rattle.promises.proofs.Refusing.{none-first, none-second, passed, outcome-accepted}
 use Rattle.names.specs.Name.{distinctNames}
@@ -23,9 +22,8 @@ use Rattle.catalogue.specs.Catalogue.{Catalogue, Valid, names, sequences
 use Rattle.catalogue.specs.Ranking.{rankingOutcome, Kept, linearPlaces, NamesRanked, RankedAs}
 use Rattle.catalogue.specs.declared.ranks.Ranking.{Ranking}
 use Rattle.catalogue.specs.declared.ranks.Ranking.the-variants.{Refused, Ranked}
-use Rattle.catalogue.proofs.Checks.{bounded}
 use Rattle.names.proofs.Merging.{numbers-∈}
-use Rattle.catalogue.proofs.Mapped.{places-ranked}
+use Rattle.catalogue.proofs.Mapped.{places-mapped}
 
 -- the places of an order are below the number of names
 pub places-below : (ns : List (List ℕ)) (n : ℕ) → length ns ≤ n → every (λ p. ltb p n) (sort (placeBefore ns) (numbers 0 (length ns))) ≡ true
@@ -61,19 +59,12 @@ module _ (c : Catalogue) where
     unfolding catalogueRefusal
     bad-bases e buffer = record { answer = rw (within, e); ranks = λ k e. absurd (refused-ranked e) }
 
-    places-mapped : distinctNames (names c) ≡ true → linearPlaces (names c) (c .marks) ≡ map (λ t. t .place) (mapped c)
-    unfolding mapped
-    places-mapped d =
-        let b = bounded c within in
-        let n = length-cut 0 (c .identifierEnds) (c .identifiers) in
-        places-ranked (names c) (sequences c) (c .marks) (length-cut 0 (c .baseEnds) (c .bases) ∙ b .sequenced ∙ sym n) (b .marked ∙ sym n) d
-
     module _ (proper : every properSequence (sequences c) ≡ true) where
       same-outcome : outcome (unless (distinctNames (names c)) 4) (length (linearPlaces (names c) (c .marks))) ≡ outcome (catalogueRefusal c) (length (mapped c))
       unfolding catalogueRefusal
       same-outcome =
           by-test (distinctNames (names c))
-          (λ d. rw (within, proper, d) (ap accepted (ap length (places-mapped d) ∙ length-map (mapped c) (λ t. t .place))))
+          (λ d. rw (within, proper, d) (ap accepted (ap length (places-mapped c within d) ∙ length-map (mapped c) (λ t. t .place))))
           (λ d. rw (within, proper, d))
 
       -- the ranking of the names is that of the catalogue
@@ -84,7 +75,7 @@ module _ (c : Catalogue) where
           ranked k e =
               let told = outcome-accepted (unless (distinctNames (names c)) 4) (length (linearPlaces (names c) (c .marks))) k (sym (h .answer) ∙ ap rankingOutcome e) in
               let inside : k ≤ length buffer = omega (arith, length-take k buffer, ap length (h .ranks k e), told .1) in
-              take-append-le k buffer rest inside ∙ h .ranks k e ∙ places-mapped (passed (distinctNames (names c)) 4 (λ z. omega arith) (told .0))
+              take-append-le k buffer rest inside ∙ h .ranks k e ∙ places-mapped c within (passed (distinctNames (names c)) 4 (λ z. omega arith) (told .0))
 
 -- a catalogue that meets no refusal is valid
 pub valid : (c : Catalogue) → catalogueRefusal c ≡ 0 → Valid c

@@ -1,8 +1,8 @@
 -- A catalogue of targets: as it is lent, the targets that it stands for, its refusals, and the targets that are mapped
 -- (REFERENCE.md, "Catalogues").
 use mathlib.Core.Path.{_≡_}
-use mathlib.Core.Bool.{Bool, true, false, not, _&&_}
-use mathlib.Core.List.{List, [], _∷_, map}
+use mathlib.Core.Bool.{Bool, true, _&&_}
+use mathlib.Core.List.{List, [], _∷_}
 use Prim.Native.Nat.{ℕ, suc, min}
 use lib.ListN.{length}
 use lib.Dec.{leb, eqb, ltb}

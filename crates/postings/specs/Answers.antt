@@ -4,9 +4,9 @@ use mathlib.Core.List.{List, _++_}
 use Prim.Native.Nat.{ℕ, zero, suc, min}
 use lib.ListN.{length, drop}
 use lib.Dec.{leb}
-use Rattle.promises.specs.Refusal.{unless}
+use Rattle.promises.specs.Refusal.{unless, outcome}
 use Rattle.catalogue.specs.Catalogue.{Catalogue, mapped}
-use Rattle.catalogue.specs.Ranking.{rankingRefusal, RanksIn}
+use Rattle.catalogue.specs.Ranking.{rankingOutcome, RanksIn}
 use Rattle.catalogue.specs.declared.ranks.Ranking.{Ranking}
 use Rattle.columns.specs.Posting.{Posting}
 use Rattle.seeds.specs.Seeds.{keysOf, ranksOf, positionsOf}
@@ -33,7 +33,7 @@ planned q c = unlessRefused (planRefusal q c) (length (mapped c)) (length (index
 
 -- the ranking of a catalogue whose seed length is tested too
 pub record PlanRanked (q : ℕ) (c : Catalogue) (r : Ranking) (buffer : List ℕ) : Type 0 where
-  pub refusal : rankingRefusal r ≡ planRefusal q c
+  pub answer : rankingOutcome r ≡ outcome (planRefusal q c) (length (mapped c))
   pub ranks : RanksIn c r buffer
 
 -- ---- build
