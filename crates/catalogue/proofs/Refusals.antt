@@ -14,7 +14,7 @@ use Rattle.lists.specs.Sort.{sort}
 use Rattle.lists.proofs.Cases.{by-test}
 use Rattle.lists.proofs.Every.{∈-every}
 use Rattle.lists.proofs.Sort.{sort-∈}
-use Rattle.promises.specs.Refusal.{unless, _orElse_, accepted, outcome}
+use Rattle.promises.specs.Refusal.{unless, _orElse_, refused, accepted, outcome}
 use Rattle.promises.proofs.Refusing.{none-first, none-second, passed, outcome-accepted}
 use Rattle.names.specs.Name.{distinctNames}
 use Rattle.names.specs.Ordered.{numbers, placeBefore}
@@ -43,21 +43,21 @@ ranked-number e = cc
 
 -- equal names are refused, and others ranked
 module _ (ns : List (List ℕ)) (ms : List ℕ) where
-  pub names-refused : distinctNames ns ≡ false → (buffer : List ℕ) → NamesRanked ns ms (Refused 4) buffer
-  names-refused d buffer = record { answer = rw d; ranks = λ k e. absurd (refused-ranked e) }
+  pub names-refused : {n : ℕ} → distinctNames ns ≡ false → n ≡ 4 → (buffer : List ℕ) → NamesRanked ns ms (Refused n) buffer
+  names-refused d told buffer = record { answer = ap refused told ∙ ap (λ b. outcome (unless b 4) (length (linearPlaces ns ms))) (sym d); ranks = λ k e. absurd (refused-ranked e) }
 
   pub names-ranked : distinctNames ns ≡ true → (k : ℕ) (order buffer : List ℕ) → order ≡ sort (placeBefore ns) (numbers 0 (length ns)) → Kept ms order k buffer → NamesRanked ns ms (Ranked k) buffer
   names-ranked d k order buffer e h = let f = rw e at h in record { answer = rw d (ap accepted (f .count)); ranks = λ j g. rw (ranked-number g) (f .places) }
 
 module _ (c : Catalogue) where
-  pub out-of-bounds : inBounds c ≡ false → (buffer : List ℕ) → RankedAs c (Refused 2) buffer
+  pub out-of-bounds : {n : ℕ} → inBounds c ≡ false → n ≡ 2 → (buffer : List ℕ) → RankedAs c (Refused n) buffer
   unfolding catalogueRefusal
-  out-of-bounds e buffer = record { answer = rw e; ranks = λ k e. absurd (refused-ranked e) }
+  out-of-bounds e told buffer = record { answer = rw e (ap refused told); ranks = λ k e. absurd (refused-ranked e) }
 
   module _ (within : inBounds c ≡ true) where
-    pub bad-bases : every properSequence (sequences c) ≡ false → (buffer : List ℕ) → RankedAs c (Refused 3) buffer
+    pub bad-bases : {n : ℕ} → every properSequence (sequences c) ≡ false → n ≡ 3 → (buffer : List ℕ) → RankedAs c (Refused n) buffer
     unfolding catalogueRefusal
-    bad-bases e buffer = record { answer = rw (within, e); ranks = λ k e. absurd (refused-ranked e) }
+    bad-bases e told buffer = record { answer = rw (within, e) (ap refused told); ranks = λ k e. absurd (refused-ranked e) }
 
     module _ (proper : every properSequence (sequences c) ≡ true) where
       same-outcome : outcome (unless (distinctNames (names c)) 4) (length (linearPlaces (names c) (c .marks))) ≡ outcome (catalogueRefusal c) (length (mapped c))

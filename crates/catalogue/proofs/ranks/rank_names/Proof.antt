@@ -31,7 +31,7 @@ returns : tie.Need-returns
 returns c =
     let o = c .before .before .before in
     let s = o .before .before .before .before .before .before in
-    names-refused (lent s) (s .args .marks .now) (sym (told o .distinct) ∙ not-true _ (c .if1 .taken)) _
+    names-refused (lent s) (s .args .marks .now) (sym (told o .distinct) ∙ not-true _ (c .if1 .taken)) (omega arith) _
 
 keep-linear-requires : tie.Need-keep-linear-requires
 keep-linear-requires c κs =

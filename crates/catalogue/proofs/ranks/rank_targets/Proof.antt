@@ -33,13 +33,13 @@ in-bounds-requires : tie.Need-in-bounds-requires
 in-bounds-requires c κs = search needs
 
 returns : tie.Need-returns
-returns c = out-of-bounds (lent (c .before .before)) (sym (c .before .in-bounds .ensures) ∙ not-true _ (c .if1 .taken)) _
+returns c = out-of-bounds (lent (c .before .before)) (sym (c .before .in-bounds .ensures) ∙ not-true _ (c .if1 .taken)) (omega arith) _
 
 all-proper-requires : tie.Need-all-proper-requires
 all-proper-requires c κs = bounds c .based
 
 returns-2 : tie.Need-returns-2
-returns-2 c = bad-bases (lent (c .before .before .before .before)) (within (c .before .before)) (sym (c .before .all-proper .ensures) ∙ not-true _ (c .if2 .taken)) _
+returns-2 c = bad-bases (lent (c .before .before .before .before)) (within (c .before .before)) (sym (c .before .all-proper .ensures) ∙ not-true _ (c .if2 .taken)) (omega arith) _
 
 slice-relend-prefix-rank-names : tie.Need-slice-relend-prefix-rank-names
 slice-relend-prefix-rank-names c = room (c .before .before)
