@@ -13,6 +13,7 @@ use borrow.Author.Tests.{ltb-true}
 use Rattle.lists.specs.Filter.{filter, consIf, every}
 use Rattle.lists.proofs.Filter.{filter-append}
 use Rattle.lists.proofs.Every.{every-at}
+use Rattle.catalogue.specs.Ranking.{PlaceKept}
 
 -- of the list `whole` the first i elements are filtered, and the first `kept` of the buffer are what passed
 pub record Filtering (p : ℕ → Bool) (whole buffer : List ℕ) (kept i : ℕ) : Type 0 where
@@ -66,8 +67,8 @@ module _ (p : ℕ → Bool) (whole buffer : List ℕ) (kept i : ℕ) (s : Filter
             rest = behind;
           }
 
-  pub filtering-next : i < length whole → (buffer′ : List ℕ) (kept′ : ℕ) → kept′ ≡ cond (p (getD buffer i 0)) (kept + 1) kept → buffer′ ≡ cond (p (getD buffer i 0)) (set buffer kept (getD buffer i 0)) buffer → Filtering p whole buffer′ kept′ (i + 1)
-  filtering-next h buffer′ kept′ e f = rw (e, f) (filtering-step h (getD buffer i 0) refl)
+  pub filtering-next : i < length whole → {kept′ : ℕ} {buffer′ : List ℕ} → PlaceKept (p (getD buffer i 0)) kept (getD buffer i 0) buffer kept′ buffer′ → Filtering p whole buffer′ kept′ (i + 1)
+  filtering-next h k = rw (k .count, k .places) (filtering-step h (getD buffer i 0) refl)
 
   -- it is below what all are below
   pub element-below : (n : ℕ) → every (λ x. ltb x n) whole ≡ true → i < length whole → getD buffer i 0 < n

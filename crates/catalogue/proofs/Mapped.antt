@@ -22,7 +22,7 @@ use Rattle.lists.proofs.Sort.{sort-ascending, ∈-sort, sort-∈}
 use Rattle.names.specs.Name.{nameBefore, distinctNames}
 use Rattle.names.specs.Ordered.{numbers, placeBefore}
 use Rattle.catalogue.specs.Catalogue.{Catalogue, Target, targetsFrom, targets, names, sequences, isMapped, byName, inBounds, mapped}
-use Rattle.catalogue.specs.Ranking.{linearAt}
+use Rattle.catalogue.specs.Ranking.{linearAt, linearPlaces}
 use Rattle.lists.proofs.Cut.{length-cut}
 use Rattle.catalogue.proofs.Checks.{bounded}
 use Rattle.names.proofs.NameLaws.{name-order, name-total, place-order, two-same}
@@ -83,56 +83,6 @@ targets-apart k (n ∷ ns′) (s ∷ ss′) [] d = tt
 targets-apart k (n ∷ ns′) (s ∷ ss′) (m ∷ ms′) d =
     (λ t h. let r = targets-∈ (suc k) ns′ ss′ ms′ t h in rw (ap (λ u. u .identifier) (r .2)) (names-apart (n ∷ ns′) d 0 (suc (r .0)) (omega arith) (omega arith) (λ e. omega arith)), targets-apart (suc k) ns′ ss′ ms′ (and-true (every (λ y. not (same n y)) ns′) (distinctNames ns′) d .1))
 
--- ---- ranks
-
-module _ (ns ss : List (List ℕ)) (ms : List ℕ) (sequenced : length ss ≡ length ns) (marked : length ms ≡ length ns) (distinct : distinctNames ns ≡ true) where
-  -- a target is the one at its place
-  at-place : (t : Target) → t ∈ targetsFrom 0 ns ss ms → (t .place < length ns) × (t ≡ targetAt 0 ns ss ms (t .place))
-  at-place t m =
-      let r = targets-∈ 0 ns ss ms t m in
-      let p : t .place ≡ r .0 = ap (λ u. u .place) (r .2) ∙ zero-add (r .0) in
-      (omega (arith, r .1), r .2 ∙ ap (λ j. targetAt 0 ns ss ms j) (sym p))
-
-  named : (t : Target) → t ∈ targetsFrom 0 ns ss ms → t .identifier ≡ getD ns (t .place) []
-  named t m = ap (λ u. u .identifier) (at-place t m .1)
-
-  abbrev ranked : List Target
-  ranked = sort byName (filter isMapped (targetsFrom 0 ns ss ms))
-
-  ranked-ascending : Ascending byName ranked
-  ranked-ascending = sort-ascending byName (order-by (λ t. t .identifier) name-order) (filter isMapped (targetsFrom 0 ns ss ms)) (apart-filter byName isMapped (targetsFrom 0 ns ss ms) (targets-apart 0 ns ss ms distinct))
-
-  ranked-∈ : (t : Target) → t ∈ ranked → (t ∈ targetsFrom 0 ns ss ms) × (isMapped t ≡ true)
-  ranked-∈ t m = filter-∈ isMapped t (targetsFrom 0 ns ss ms) (sort-∈ byName t (filter isMapped (targetsFrom 0 ns ss ms)) m)
-
-  -- the places of the mapped targets by rank are the linear places in the order of their names
-  pub places-ranked : filter (linearAt ms) (sort (placeBefore ns) (numbers 0 (length ns))) ≡ map (λ t. t .place) ranked
-  places-ranked =
-      ascending-unique (placeBefore ns) (place-order ns) (filter (linearAt ms) (sort (placeBefore ns) (numbers 0 (length ns)))) (map (λ t. t .place) ranked)
-      (ascending-filter (placeBefore ns) (linearAt ms) (sort (placeBefore ns) (numbers 0 (length ns))) (sort-ascending (placeBefore ns) (place-order ns) (numbers 0 (length ns)) (numbers-apart ns distinct 0 (length ns) (omega arith))))
-      (ascending-map byName (placeBefore ns) (λ t. t .place) ranked (λ t u m k h. ordered t u (ranked-∈ t m .0) (ranked-∈ u k .0) h) ranked-ascending)
-      to from
-    where
-      ordered : (t u : Target) → t ∈ targetsFrom 0 ns ss ms → u ∈ targetsFrom 0 ns ss ms → byName t u ≡ true → placeBefore ns (t .place) (u .place) ≡ true
-      ordered t u m k h = ap₂ (λ x y. nameBefore x y) (sym (named t m)) (sym (named u k)) ∙ h
-
-      to : (p : ℕ) → p ∈ filter (linearAt ms) (sort (placeBefore ns) (numbers 0 (length ns))) → p ∈ map (λ t. t .place) ranked
-      to p m =
-          let k = filter-∈ (linearAt ms) p (sort (placeBefore ns) (numbers 0 (length ns))) m in
-          let r = numbers-∈ 0 (length ns) p (sort-∈ (placeBefore ns) p (numbers 0 (length ns)) (k .0)) in
-          let t = targetAt 0 ns ss ms p in
-          let z : p ≡ 0 + p = omega arith in
-          rw z (∈-map (λ t. t .place) t ranked (∈-sort byName t (filter isMapped (targetsFrom 0 ns ss ms)) (∈-filter isMapped t (targetsFrom 0 ns ss ms) (∈-targets 0 ns ss ms sequenced marked p (omega arith)) (k .1))))
-
-      from : (p : ℕ) → p ∈ map (λ t. t .place) ranked → p ∈ filter (linearAt ms) (sort (placeBefore ns) (numbers 0 (length ns)))
-      from p m =
-          let r = map-∈ (λ t. t .place) p ranked m in
-          let q = ranked-∈ (r .0) (r .1) in
-          let a = at-place (r .0) (q .0) in
-          let l : p < length ns = omega (arith, a .0, r .2) in
-          ∈-filter (linearAt ms) p (sort (placeBefore ns) (numbers 0 (length ns))) (∈-sort (placeBefore ns) p (numbers 0 (length ns)) (∈-numbers 0 (length ns) p (omega arith) (omega arith)))
-          (ap (λ n. eqb (getD ms n 0) 0) (r .2) ∙ ap isMapped (sym (a .1)) ∙ q .1)
-
 -- ---- the mapped targets of a catalogue
 
 module _ (c : Catalogue) where
@@ -150,13 +100,62 @@ module _ (c : Catalogue) where
   unfolding mapped
   mapped-ascending d = sort-ascending byName (order-by (λ t. t .identifier) name-order) (filter isMapped (targets c)) (apart-filter byName isMapped (targets c) (targets-apart 0 (names c) (sequences c) (c .marks) d))
 
--- a target's place is one of the catalogue's, and has its sequence
-pub at-its-place : (c : Catalogue) → inBounds c ≡ true → (t : Target) → t ∈ targets c → (t .place < length (c .baseEnds)) × (t .bases ≡ getD (sequences c) (t .place) [])
-at-its-place c within t m =
-    let b = bounded c within in
-    let r = targets-∈ 0 (names c) (sequences c) (c .marks) t m in
-    let z : t .place ≡ r .0 = ap (λ u. u .place) (r .2) ∙ zero-add (r .0) in
-    (omega (arith, r .1, b .sequenced, length-cut 0 (c .identifierEnds) (c .identifiers)), ap (λ u. u .bases) (r .2) ∙ ap (λ j. getD (sequences c) j []) (sym z))
+  -- a target is the one at its place
+  at-place : (t : Target) → t ∈ targets c → (t .place < length (names c)) × (t ≡ targetAt 0 (names c) (sequences c) (c .marks) (t .place))
+  at-place t m =
+      let r = targets-∈ 0 (names c) (sequences c) (c .marks) t m in
+      let p : t .place ≡ r .0 = ap (λ u. u .place) (r .2) ∙ zero-add (r .0) in
+      (omega (arith, r .1), r .2 ∙ ap (λ j. targetAt 0 (names c) (sequences c) (c .marks) j) (sym p))
+
+  module _ (within : inBounds c ≡ true) where
+    name-count : length (names c) ≡ length (c .identifierEnds)
+    name-count = length-cut 0 (c .identifierEnds) (c .identifiers)
+
+    sequence-count : length (sequences c) ≡ length (names c)
+    sequence-count = length-cut 0 (c .baseEnds) (c .bases) ∙ bounded c within .sequenced ∙ sym name-count
+
+    mark-count : length (c .marks) ≡ length (names c)
+    mark-count = bounded c within .marked ∙ sym name-count
+
+    -- a target's place is one of the catalogue's, and has its sequence
+    pub at-its-place : (t : Target) → t ∈ targets c → (t .place < length (c .baseEnds)) × (t .bases ≡ getD (sequences c) (t .place) [])
+    at-its-place t m =
+        let a = at-place t m in
+        (omega (arith, a .0, name-count, bounded c within .sequenced), ap (λ u. u .bases) (a .1))
+
+    -- the places of the mapped targets by rank are the linear places in the order of their names
+    pub places-mapped : distinctNames (names c) ≡ true → linearPlaces (names c) (c .marks) ≡ map (λ t. t .place) (mapped c)
+    places-mapped distinct =
+        ascending-unique (placeBefore (names c)) (place-order (names c)) (linearPlaces (names c) (c .marks)) (map (λ t. t .place) (mapped c))
+        (ascending-filter (placeBefore (names c)) (linearAt (c .marks)) sorted (sort-ascending (placeBefore (names c)) (place-order (names c)) places (numbers-apart (names c) distinct 0 (length (names c)) (omega arith))))
+        (ascending-map byName (placeBefore (names c)) (λ t. t .place) (mapped c) (λ t u m k h. ap₂ (λ x y. nameBefore x y) (sym (named t m)) (sym (named u k)) ∙ h) (mapped-ascending distinct))
+        to from
+      where
+        places : List ℕ
+        places = numbers 0 (length (names c))
+
+        sorted : List ℕ
+        sorted = sort (placeBefore (names c)) places
+
+        named : (t : Target) → t ∈ mapped c → t .identifier ≡ getD (names c) (t .place) []
+        named t m = ap (λ u. u .identifier) (at-place t (mapped-∈ t m .0) .1)
+
+        to : (p : ℕ) → p ∈ linearPlaces (names c) (c .marks) → p ∈ map (λ t. t .place) (mapped c)
+        to p m =
+            let k = filter-∈ (linearAt (c .marks)) p sorted m in
+            let r = numbers-∈ 0 (length (names c)) p (sort-∈ (placeBefore (names c)) p places (k .0)) in
+            let t = targetAt 0 (names c) (sequences c) (c .marks) p in
+            let z : p ≡ 0 + p = omega arith in
+            rw z (∈-map (λ t. t .place) t (mapped c) (∈-mapped t (∈-targets 0 (names c) (sequences c) (c .marks) sequence-count mark-count p (omega arith)) (k .1)))
+
+        from : (p : ℕ) → p ∈ map (λ t. t .place) (mapped c) → p ∈ linearPlaces (names c) (c .marks)
+        from p m =
+            let r = map-∈ (λ t. t .place) p (mapped c) m in
+            let q = mapped-∈ (r .0) (r .1) in
+            let a = at-place (r .0) (q .0) in
+            let l : p < length (names c) = omega (arith, a .0, r .2) in
+            ∈-filter (linearAt (c .marks)) p sorted (∈-sort (placeBefore (names c)) p places (∈-numbers 0 (length (names c)) p (omega arith) (omega arith)))
+            (ap (λ n. eqb (getD (c .marks) n 0) 0) (r .2) ∙ ap isMapped (sym (a .1)) ∙ q .1)
 
 -- and its name
 pub named-by-place : (c : Catalogue) (t : Target) → t ∈ targets c → t .identifier ≡ getD (names c) (t .place) []

@@ -1,8 +1,8 @@
 -- A catalogue of targets: as it is lent, the targets that it stands for, its refusals, and the targets that are mapped
 -- (REFERENCE.md, "Catalogues").
 use mathlib.Core.Path.{_≡_}
-use mathlib.Core.Bool.{Bool, true, false, not, _&&_}
-use mathlib.Core.List.{List, [], _∷_, map}
+use mathlib.Core.Bool.{Bool, true, _&&_}
+use mathlib.Core.List.{List, [], _∷_}
 use Prim.Native.Nat.{ℕ, suc, min}
 use lib.ListN.{length}
 use lib.Dec.{leb, eqb, ltb}
@@ -70,9 +70,17 @@ countsRight c =
 abbrev pub endsRight : Catalogue → Bool
 endsRight c = endsWithin 0 (length (c .identifiers)) (c .identifierEnds) && endsWithin 0 (min (length (c .bases)) maxBases) (c .baseEnds)
 
--- identifiers are within the bound, and a mark is 0 for linear or 1 for closed
+-- no sequence is longer than a bound
+abbrev pub lengthsWithin : ℕ → List (List ℕ) → Bool
+lengthsWithin most ss = every (λ (s : List ℕ). leb (length s) most) ss
+
+-- a mark is 0 for linear or 1 for closed
+abbrev pub marksRight : List ℕ → Bool
+marksRight marks = every (λ m. leb m 1) marks
+
+-- identifiers are within the bound, and marks are right
 abbrev pub valuesRight : Catalogue → Bool
-valuesRight c = every (λ (n : List ℕ). leb (length n) maxIdentifier) (names c) && every (λ m. leb m 1) (c .marks)
+valuesRight c = lengthsWithin maxIdentifier (names c) && marksRight (c .marks)
 
 -- 2 where this fails
 unfoldable pub inBounds : Catalogue → Bool

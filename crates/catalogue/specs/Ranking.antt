@@ -1,52 +1,65 @@
 -- What ranking a catalogue answers and leaves in its buffer.
 use mathlib.Core.Path.{_≡_}
-use mathlib.Core.Bool.{Bool}
+use mathlib.Core.Bool.{Bool, cond}
 use mathlib.Core.List.{List, map}
-use Prim.Native.Nat.{ℕ}
-use lib.ListN.{length, getD, take}
+use Prim.Native.Nat.{ℕ, _+_}
+use lib.ListN.{length, getD, take, set}
 use lib.Dec.{eqb}
 use Rattle.lists.specs.Filter.{filter}
 use Rattle.lists.specs.Sort.{sort}
-use Rattle.promises.specs.Refusal.{unless}
+use Rattle.promises.specs.Refusal.{unless, Outcome, refused, accepted, outcome}
 use Rattle.names.specs.Name.{distinctNames}
 use Rattle.names.specs.Ordered.{numbers, placeBefore}
+use Rattle.names.specs.Lent.{NamesLent}
 use Rattle.catalogue.specs.Catalogue.{Catalogue, Target, catalogueRefusal, mapped}
 use Rattle.catalogue.specs.declared.ranks.Ranking.{Ranking}
 use Rattle.catalogue.specs.declared.ranks.Ranking.the-variants.{Refused, Ranked}
 
+-- the outcome that an answer stands for
+abbrev pub rankingOutcome : Ranking → Outcome ℕ
+rankingOutcome (Refused n) = refused n
+rankingOutcome (Ranked k) = accepted k
+
+-- ---- linear places
+
 -- the mark at a place says linear
 abbrev pub linearAt : List ℕ → ℕ → Bool
 linearAt marks p = eqb (getD marks p 0) 0
+
+-- a linear place is put behind those kept and counted; any other changes nothing
+pub record PlaceKept (linear : Bool) (kept place : ℕ) (order : List ℕ) (r : ℕ) (buffer : List ℕ) : Type 0 where
+  pub count : r ≡ cond linear (kept + 1) kept
+  pub places : buffer ≡ cond linear (set order kept place) order
 
 -- the first r numbers of a buffer are the linear places of an order, in that order
 pub record Kept (marks order : List ℕ) (r : ℕ) (buffer : List ℕ) : Type 0 where
   pub count : r ≡ length (filter (linearAt marks) order)
   pub places : take r buffer ≡ filter (linearAt marks) order
 
--- the refusal that an answer stands for
-abbrev pub rankingRefusal : Ranking → ℕ
-rankingRefusal (Refused n) = n
-rankingRefusal (Ranked k) = 0
+-- ---- names ranked
 
--- of names that differ, the linear places in the order of the names; 4 where two names are equal
-abbrev pub LinearIn : List (List ℕ) → List ℕ → Ranking → List ℕ → Type 0
-LinearIn names marks (Refused n) buffer = n ≡ 0 → ⊥
-LinearIn names marks (Ranked k) buffer = Kept marks (sort (placeBefore names) (numbers 0 (length names))) k buffer
+-- names with a mark and a number of the buffer for each
+pub record MarkedNames (identifiers ends marks order : List ℕ) : Type 0 where
+  pub lent : NamesLent identifiers ends order
+  pub marked : length marks ≡ length ends
 
+-- the linear places in the order of their names
+abbrev pub linearPlaces : List (List ℕ) → List ℕ → List ℕ
+linearPlaces names marks = filter (linearAt marks) (sort (placeBefore names) (numbers 0 (length names)))
+
+-- 4 where two names are equal; else the number of linear places, which are first in the buffer, in the order of their names
 pub record NamesRanked (names : List (List ℕ)) (marks : List ℕ) (r : Ranking) (buffer : List ℕ) : Type 0 where
-  pub refusal : rankingRefusal r ≡ unless (distinctNames names) 4
-  pub ranks : LinearIn names marks r buffer
+  pub answer : rankingOutcome r ≡ outcome (unless (distinctNames names) 4) (length (linearPlaces names marks))
+  pub ranks : (k : ℕ) → r ≡ Ranked k → take k buffer ≡ linearPlaces names marks
 
--- the first numbers of the buffer are the supplied places of the mapped targets, by rank
-pub record RanksOf (c : Catalogue) (k : ℕ) (buffer : List ℕ) : Type 0 where
-  pub count : k ≡ length (mapped c)
-  pub places : take k buffer ≡ map (λ t. t .place) (mapped c)
+-- ---- a catalogue ranked
 
--- a catalogue is ranked or refused by a number that is not 0; of the buffer nothing is said where it is refused
+-- where a catalogue is ranked, the first numbers of the buffer are the supplied places of its mapped targets, by rank;
+-- on a refusal the buffer is free, since it is the caller's scratch and nobody reads it then
 abbrev pub RanksIn : Catalogue → Ranking → List ℕ → Type 0
-RanksIn c (Refused n) buffer = n ≡ 0 → ⊥
-RanksIn c (Ranked k) buffer = RanksOf c k buffer
+RanksIn c r buffer = (k : ℕ) → r ≡ Ranked k → take k buffer ≡ map (λ (t : Target). t .place) (mapped c)
 
+-- the catalogue's refusal, or the number of its mapped targets
 pub record RankedAs (c : Catalogue) (r : Ranking) (buffer : List ℕ) : Type 0 where
-  pub refusal : rankingRefusal r ≡ catalogueRefusal c
+  pub answer : rankingOutcome r ≡ outcome (catalogueRefusal c) (length (mapped c))
   pub ranks : RanksIn c r buffer

@@ -1,21 +1,18 @@
 // Refusals 2 and 3: the bounds of a catalogue, and the bases of its targets.
 ghost use mathlib.Core.Path.{_≡_};
-ghost use mathlib.Core.Bool.{true, _&&_};
-ghost use mathlib.Core.List.{List};
-ghost use Prim.Native.Nat.{ℕ, _≤_, min};
-ghost use lib.ListN.{length};
-ghost use lib.Dec.{leb};
+ghost use Prim.Native.Nat.{min};
 ghost use Rattle.lists.specs.Filter.{every};
-ghost use Rattle.lists.specs.Cut.{cut, endsWithin};
+ghost use Rattle.lists.specs.Cut.{endsWithin};
 ghost use Rattle.promises.specs.Slice.{old};
 ghost use Rattle.bases.specs.Base.{isCapital};
-ghost use Rattle.catalogue.specs.Catalogue.{lentCatalogue, countsRight, endsRight, valuesRight, inBounds, properSequence, sequences};
+ghost use Rattle.names.specs.Lent.{lentCut, EndsRight};
+ghost use Rattle.catalogue.specs.Catalogue.{lentCatalogue, lengthsWithin, marksRight, inBounds, properSequence};
 
-pub const MAX_TARGETS: usize = 4096;
+const MAX_TARGETS: usize = 4096;
 
-pub const MAX_IDENTIFIER: usize = 255;
+const MAX_IDENTIFIER: usize = 255;
 
-pub const MAX_BASES: usize = 16777216;
+const MAX_BASES: usize = 16777216;
 
 // Whether no end falls or passes a bound.
 pub fn ends_within(ends: &[usize], most: usize) -> bool
@@ -39,8 +36,8 @@ pub fn ends_within(ends: &[usize], most: usize) -> bool
 
 // Whether no sequence is longer than a bound.
 fn lengths_within(ends: &[usize], bytes: &[u8], most: usize) -> bool
-    requires { ⌜ endsWithin 0 (length (now bytes)) (now ends) ≡ true ⌝ }
-    ensures { λ r. ⌜ r ≡ every (λ (s : List ℕ). leb (length s) most) (cut (old ends) (old bytes)) ⌝ }
+    requires { ⌜ EndsRight (now bytes) (now ends) ⌝ }
+    ensures { λ r. ⌜ r ≡ lengthsWithin most (lentCut bytes ends) ⌝ }
 {
     let mut from = 0;
     let mut i = 0;
@@ -57,7 +54,7 @@ fn lengths_within(ends: &[usize], bytes: &[u8], most: usize) -> bool
 
 // Whether each mark is 0 or 1.
 fn marks_right(marks: &[u8]) -> bool
-    ensures { λ r. ⌜ r ≡ every (λ m. leb m 1) (old marks) ⌝ }
+    ensures { λ r. ⌜ r ≡ marksRight (old marks) ⌝ }
 {
     let mut i = 0;
     while i < marks.len() {
@@ -76,7 +73,7 @@ fn least(a: usize, b: usize) -> usize
 }
 
 // Whether a catalogue is within its bounds: refusal 2 where it is not.
-pub fn in_bounds(
+pub(crate) fn in_bounds(
     identifiers: &[u8],
     identifier_ends: &[usize],
     bases: &[u8],
@@ -146,9 +143,9 @@ fn is_capital(b: u8) -> bool
 }
 
 // Whether every target's sequence is proper: refusal 3 where some is not.
-pub fn all_proper(bases: &[u8], ends: &[usize]) -> bool
-    requires { ⌜ endsWithin 0 (length (now bases)) (now ends) ≡ true ⌝ }
-    ensures { λ r. ⌜ r ≡ every properSequence (cut (old ends) (old bases)) ⌝ }
+pub(crate) fn all_proper(bases: &[u8], ends: &[usize]) -> bool
+    requires { ⌜ EndsRight (now bases) (now ends) ⌝ }
+    ensures { λ r. ⌜ r ≡ every properSequence (lentCut bases ends) ⌝ }
 {
     let mut from = 0;
     let mut i = 0;

@@ -1,14 +1,14 @@
 // Ranks: the places of the mapped targets in the order of their names, or the catalogue's refusal.
 ghost use mathlib.Core.Path.{_≡_};
-ghost use mathlib.Core.Bool.{true, cond};
-ghost use Prim.Native.Nat.{_+_, _<_, _≤_};
-ghost use lib.ListN.{length, set};
+ghost use mathlib.Core.Bool.{true};
+ghost use Prim.Native.Nat.{_<_, _≤_};
+ghost use lib.ListN.{length};
 ghost use lib.Dec.{ltb};
 ghost use Rattle.lists.specs.Filter.{every};
-ghost use Rattle.lists.specs.Cut.{cut, endsWithin};
 ghost use Rattle.promises.specs.Slice.{old, new};
 ghost use Rattle.catalogue.specs.Catalogue.{lentCatalogue};
-ghost use Rattle.catalogue.specs.Ranking.{Kept, NamesRanked, RankedAs};
+ghost use Rattle.names.specs.Lent.{lentCut};
+ghost use Rattle.catalogue.specs.Ranking.{PlaceKept, Kept, MarkedNames, NamesRanked, RankedAs};
 use crate::bounds::all_proper;
 use crate::bounds::in_bounds;
 use names::order::order_names;
@@ -22,7 +22,7 @@ pub enum Ranking {
 // Puts a place behind those kept if it is linear, and answers how many are kept then.
 fn keep_place(order: &mut [usize], kept: usize, place: usize, linear: bool) -> usize
     requires { ⌜ kept < length (now order) ⌝ }
-    ensures { λ r. ⌜ (r ≡ cond linear (kept + 1) kept) × (new order ≡ cond linear (set (old order) kept place) (old order)) ⌝ }
+    ensures { λ r. ⌜ PlaceKept linear kept place (old order) r (new order) ⌝ }
 {
     if linear {
         order[kept] = place;
@@ -48,9 +48,8 @@ fn keep_linear(order: &mut [usize], marks: &[u8]) -> usize
 
 // Puts the linear places into the order of their names, unless two names are equal.
 fn rank_names(order: &mut [usize], identifiers: &[u8], ends: &[usize], marks: &[u8]) -> Ranking
-    requires { ⌜ endsWithin 0 (length (now identifiers)) (now ends) ≡ true ⌝ }
-    requires { ⌜ (length (now order) ≡ length (now ends)) × ((length (now marks) ≡ length (now ends)) × (length (now ends) ≤ 4096)) ⌝ }
-    ensures { λ r. ⌜ NamesRanked (cut (old ends) (old identifiers)) (old marks) r (new order) ⌝ }
+    requires { ⌜ MarkedNames (now identifiers) (now ends) (now marks) (now order) ⌝ }
+    ensures { λ r. ⌜ NamesRanked (lentCut identifiers ends) (old marks) r (new order) ⌝ }
 {
     if !order_names(order, identifiers, ends) {
         return Ranking::Refused(4);

@@ -22,7 +22,6 @@ use Rattle.promises.specs.Refusal.{unless, _orElse_}
 use Rattle.promises.proofs.Refusing.{first-stands}
 use Rattle.names.specs.Name.{distinctNames}
 use Rattle.catalogue.specs.Catalogue.{Catalogue, Target, Valid, names, sequences, mapped, inBounds, properSequence, catalogueRefusal}
-use Rattle.catalogue.specs.Ranking.{rankingRefusal, RanksOf}
 use Rattle.catalogue.specs.declared.ranks.Ranking.{Ranking}
 use Rattle.catalogue.specs.declared.ranks.Ranking.the-variants.{Refused, Ranked}
 use Rattle.catalogue.proofs.Mapped.{mapped-∈, at-its-place}
@@ -30,7 +29,7 @@ use Rattle.seeds.specs.Seeds.{keysOf, ranksOf, positionsOf}
 use Rattle.seeds.specs.Key.{SeedLength}
 use Rattle.index.specs.Index.{indexOf, mappedSequences, rankedSequences, seedRight, planRefusal, indexRefusal, columnsOf, Lent, Indexed}
 use Rattle.postings.specs.Answers.{PlanRanked}
-use Rattle.postings.proofs.Planning.{plan-right, no-refusal, ranked-mapped, test-refused}
+use Rattle.postings.proofs.Planning.{no-refusal, ranked-mapped, number, not-zero, test-refused}
 use Rattle.bases.specs.Read.{folded}
 use Rattle.places.specs.Place.{Place, maxRead, groups}
 use Rattle.scan.specs.Entries.{entryCount}
@@ -163,11 +162,11 @@ module _ (q : ℕ) (c : Catalogue) (r : Ranking) (buffer : List ℕ) (p : PlanRa
     pub map-refused : (n : ℕ) → r ≡ Refused n → MapsTo q c ks rs os read limit (answers.Refused n) b b
     unfolding mapRefusal
     map-refused n e =
-        let ne : n ≡ 0 → ⊥ = rw e at (p .ranks) in
+        let ne = not-zero q c r buffer p n e in
         let rest : ℕ = rankedRefusal (mappedSequences c) read limit (entryCount b) in
         refused-as q (mappedSequences c) (suppliedPlaces c) read limit b n (indexRefusal q c ks rs os orElse rest)
         (first-stands n rest ne ∙ ap (λ m. m orElse rest) (test-refused q c r buffer p n e ks rs os)) ne
-        (omega (arith, ap rankingRefusal e, p .refusal, plan-below q c))
+        (omega (arith, number q c r buffer p n e, plan-below q c))
 
     module _ (k : ℕ) (e : r ≡ Ranked k) where
       abbrev ss : List (List ℕ)
@@ -177,5 +176,4 @@ module _ (q : ℕ) (c : Catalogue) (r : Ranking) (buffer : List ℕ) (p : PlanRa
       pub map-done : (x : MapAnswer) (b′ : List ℕ) → IndexMapped q ss (take k buffer) ks rs os read limit x b b′ → MapsTo q c ks rs os read limit x b b′
       unfolding mapRefusal indexRefusal
       map-done x b′ a =
-          let ranks : RanksOf c k buffer = rw e at (p .ranks) in
-          rw (no-refusal q c r buffer p k e) (rw (ranked-mapped q c r buffer p k e, ranks .places) at a)
+          rw (no-refusal q c r buffer p k e) (rw (ranked-mapped q c r buffer p k e, p .ranks k e) at a)

@@ -15,12 +15,11 @@ use Rattle.lists.proofs.Cut.{length-cut}
 use Rattle.promises.specs.Refusal.{unless, _orElse_}
 use Rattle.promises.proofs.Refusing.{first-stands, none-first, passed}
 use Rattle.catalogue.specs.Catalogue.{Catalogue}
-use Rattle.catalogue.specs.Ranking.{RanksOf}
 use Rattle.catalogue.specs.declared.ranks.Ranking.{Ranking}
 use Rattle.catalogue.specs.declared.ranks.Ranking.the-variants.{Refused, Ranked}
 use Rattle.index.specs.Index.{index, indexOf, mappedSequences, rankedSequences, indexRefusal, columnsOf}
 use Rattle.postings.specs.Answers.{PlanRanked}
-use Rattle.postings.proofs.Planning.{no-refusal, ranked-mapped, test-refused}
+use Rattle.postings.proofs.Planning.{no-refusal, ranked-mapped, not-zero, test-refused}
 use Rattle.places.specs.Place.{groups}
 use Rattle.scan.specs.Entries.{entryCount}
 use Rattle.search.specs.Work.{work}
@@ -104,7 +103,7 @@ module _ (q : ℕ) (c : Catalogue) (r : Ranking) (buffer : List ℕ) (p : PlanRa
   pub reads-refused : (n : ℕ) → r ≡ Refused n → MapsReads q c ks rs os limit bytes ends n rows entries rows entries
   unfolding readsRefusal
   reads-refused n e =
-      let ne : n ≡ 0 → ⊥ = rw e at (p .ranks) in
+      let ne = not-zero q c r buffer p n e in
       let rest : ℕ = listRefusal limit bytes ends (length rows) in
       record {
         refusal = first-stands n rest ne ∙ ap (λ m. m orElse rest) (test-refused q c r buffer p n e ks rs os);
@@ -128,9 +127,7 @@ module _ (q : ℕ) (c : Catalogue) (r : Ranking) (buffer : List ℕ) (p : PlanRa
         }
       where
         same : RankedReads q (mappedSequences c) (suppliedPlaces c) ks rs os limit bytes ends x rows entries rows′ entries′
-        same =
-            let ranks : RanksOf c k buffer = rw e at (p .ranks) in
-            rw (ranked-mapped q c r buffer p k e, ranks .places) at a
+        same = rw (ranked-mapped q c r buffer p k e, p .ranks k e) at a
 
         held : (unless (columnsOf (index q c) ks rs os) 6 orElse listRefusal limit bytes ends (length rows)) ≡ 0 → indexRefusal q c ks rs os ≡ 0
         held z = rw (no-refusal q c r buffer p k e, held-index (columnsOf (index q c) ks rs os) (listRefusal limit bytes ends (length rows)) z) refl

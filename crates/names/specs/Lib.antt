@@ -1,3 +1,4 @@
 pub mod Name
 pub mod Comparison
 pub mod Ordered
+pub mod Lent

@@ -1,4 +1,4 @@
 // Sequences by their place; identifiers compared and put in order.
-pub mod compare;
+mod compare;
 pub mod order;
 pub mod sequences;

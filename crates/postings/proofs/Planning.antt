@@ -16,15 +16,15 @@ use Rattle.lists.proofs.Cut.{length-cut}
 use Rattle.lists.proofs.Every.{every-at, ∈-every}
 use Rattle.lists.proofs.Member.{map-∈}
 use Rattle.promises.specs.Refusal.{unless, _orElse_, Outcome, refused, accepted}
-use Rattle.promises.proofs.Refusing.{first-stands, outcome-refused}
+use Rattle.promises.proofs.Refusing.{first-stands, outcome-refused, outcome-accepted, outcome-number}
 use Rattle.bases.specs.Base.{isCapital}
 use Rattle.catalogue.specs.Catalogue.{Catalogue, Target, Valid, properSequence, sequences, mapped, maxTargets}
-use Rattle.catalogue.specs.Ranking.{rankingRefusal, RanksOf, RankedAs}
+use Rattle.catalogue.specs.Ranking.{rankingOutcome, RankedAs}
 use Rattle.catalogue.specs.declared.ranks.Ranking.{Ranking}
 use Rattle.catalogue.specs.declared.ranks.Ranking.the-variants.{Refused, Ranked}
 use Rattle.catalogue.proofs.Checks.{bounded}
 use Rattle.catalogue.proofs.Mapped.{mapped-∈, at-its-place}
-use Rattle.catalogue.proofs.Refusals.{valid}
+use Rattle.catalogue.proofs.Refusals.{refused-ranked, valid}
 use Rattle.seeds.specs.Seeds.{keysOf, ranksOf, positionsOf, placed, Stored}
 use Rattle.seeds.specs.Key.{SeedLength}
 use Rattle.index.specs.Index.{allSeeds, index, indexOf, mappedSequences, rankedSequences, seedRight, planRefusal, buildRefusal, indexRefusal, columnsOf, Lent}
@@ -43,16 +43,16 @@ counts k n = record { targets = k; postings = n }
 module _ (q : ℕ) (c : Catalogue) where
   pub seed-short : (buffer : List ℕ) → q < 1 → PlanRanked q c (Refused 1) buffer
   unfolding planRefusal
-  seed-short buffer h = record { refusal = rw (lt-leb 1 q h); ranks = λ z. omega arith }
+  seed-short buffer h = record { answer = rw (lt-leb 1 q h); ranks = λ k e. absurd (refused-ranked e) }
 
   module _ (some : 1 ≤ q) where
     pub seed-long : (buffer : List ℕ) → 31 < q → PlanRanked q c (Refused 1) buffer
     unfolding planRefusal
-    seed-long buffer h = record { refusal = rw (le-leb 1 q some, lt-leb q 31 h); ranks = λ z. omega arith }
+    seed-long buffer h = record { answer = rw (le-leb 1 q some, lt-leb q 31 h); ranks = λ k e. absurd (refused-ranked e) }
 
     pub seed-fits : q ≤ 31 → (r : Ranking) (buffer : List ℕ) → RankedAs c r buffer → PlanRanked q c r buffer
     unfolding planRefusal
-    seed-fits most r buffer a = record { refusal = rw (le-leb 1 q some, le-leb q 31 most) (a .refusal); ranks = a .ranks }
+    seed-fits most r buffer a = record { answer = rw (le-leb 1 q some, le-leb q 31 most) (a .answer); ranks = a .ranks }
 
   -- a plan that is not refused
   pub plan-right : planRefusal q c ≡ 0 → SeedLength q × Valid c
@@ -65,11 +65,11 @@ module _ (q : ℕ) (c : Catalogue) where
 -- ---- sequences by rank
 
 module _ (q : ℕ) (c : Catalogue) (r : Ranking) (buffer : List ℕ) (p : PlanRanked q c r buffer) (k : ℕ) (ranked : r ≡ Ranked k) where
-  ranks : RanksOf c k buffer
-  ranks = rw ranked at (p .ranks)
+  told : (planRefusal q c ≡ 0) × (length (mapped c) ≡ k)
+  told = outcome-accepted (planRefusal q c) (length (mapped c)) k (sym (p .answer) ∙ ap rankingOutcome ranked)
 
   pub no-refusal : planRefusal q c ≡ 0
-  no-refusal = sym (p .refusal) ∙ ap rankingRefusal ranked
+  no-refusal = told .0
 
   pub seed-length : SeedLength q
   seed-length = plan-right q c no-refusal .0
@@ -78,7 +78,7 @@ module _ (q : ℕ) (c : Catalogue) (r : Ranking) (buffer : List ℕ) (p : PlanRa
   is-valid = plan-right q c no-refusal .1
 
   ranked-count : length (take k buffer) ≡ k
-  ranked-count = ap length (ranks .places) ∙ length-map (mapped c) (λ (t : Target). t .place) ∙ sym (ranks .count)
+  ranked-count = ap length (p .ranks k ranked) ∙ length-map (mapped c) (λ (t : Target). t .place) ∙ told .1
 
   pub within-buffer : k ≤ length buffer
   within-buffer = omega (arith, length-take k buffer, ranked-count)
@@ -93,7 +93,7 @@ module _ (q : ℕ) (c : Catalogue) (r : Ranking) (buffer : List ℕ) (p : PlanRa
   -- the sequences at the ranked places are those of the mapped targets
   pub ranked-mapped : rankedSequences (c .bases) (c .baseEnds) (take k buffer) ≡ mappedSequences c
   ranked-mapped =
-      ap (λ l. map (λ n. getD (sequences c) n []) l) (ranks .places)
+      ap (λ l. map (λ n. getD (sequences c) n []) l) (p .ranks k ranked)
       ∙ sequences-of (mapped c) (λ t m. at-its-place c (is-valid .bounds) t (mapped-∈ c t m .0) .1)
 
   pub lent : length buffer ≤ maxTargets → Lent (c .bases) (c .baseEnds) (take k buffer)
@@ -103,7 +103,7 @@ module _ (q : ℕ) (c : Catalogue) (r : Ranking) (buffer : List ℕ) (p : PlanRa
         right = b .based;
         total = b .total;
         few = omega (arith, ranked-count, within-buffer);
-        places = rw (ranks .places) (∈-every (λ n. ltb n (length (c .baseEnds))) (map (λ (t : Target). t .place) (mapped c)) below);
+        places = rw (p .ranks k ranked) (∈-every (λ n. ltb n (length (c .baseEnds))) (map (λ (t : Target). t .place) (mapped c)) below);
         capitals = rw ranked-mapped (∈-every (λ (s : List ℕ). every isCapital s) (mappedSequences c) proper);
       }
     where
@@ -125,7 +125,7 @@ module _ (q : ℕ) (c : Catalogue) (r : Ranking) (buffer : List ℕ) (p : PlanRa
   pub plan-done : (n : ℕ) → n ≡ length (allSeeds q 0 (rankedSequences (c .bases) (c .baseEnds) (take k buffer))) → accepted (counts k n) ≡ planned q c
   plan-done n e =
       let m : n ≡ length (index q c) = e ∙ ap (λ ss. length (allSeeds q 0 ss)) ranked-mapped ∙ sym (length-index q (mappedSequences c)) in
-      rw no-refusal (ap₂ (λ x y. accepted (counts x y)) (ranks .count) m)
+      rw no-refusal (ap₂ (λ x y. accepted (counts x y)) (sym (told .1)) m)
 
   pub build-done : (b : Built) (ks rs os ks′ rs′ os′ : List ℕ) → BuiltFrom q (rankedSequences (c .bases) (c .baseEnds) (take k buffer)) b ks rs os ks′ rs′ os′ → BuiltAs q c b ks rs os ks′ rs′ os′
   unfolding buildRefusal
@@ -138,11 +138,14 @@ module _ (q : ℕ) (c : Catalogue) (r : Ranking) (buffer : List ℕ) (p : PlanRa
 -- ---- refusals of the ranking
 
 module _ (q : ℕ) (c : Catalogue) (r : Ranking) (buffer : List ℕ) (p : PlanRanked q c r buffer) (n : ℕ) (told : r ≡ Refused n) where
-  number : planRefusal q c ≡ n
-  number = sym (p .refusal) ∙ ap rankingRefusal told
+  told-number : (planRefusal q c ≡ n) × (n ≡ 0 → ⊥)
+  told-number = outcome-number (planRefusal q c) n (length (mapped c)) (sym (p .answer) ∙ ap rankingOutcome told)
 
-  not-zero : n ≡ 0 → ⊥
-  not-zero = rw told at (p .ranks)
+  pub number : planRefusal q c ≡ n
+  number = told-number .0
+
+  pub not-zero : n ≡ 0 → ⊥
+  not-zero = told-number .1
 
   pub plan-refused : refused n ≡ planned q c
   plan-refused = rw number (outcome-refused n _ not-zero)

@@ -6,7 +6,7 @@ use lib.ListN.{length, drop}
 use lib.Dec.{leb}
 use Rattle.promises.specs.Refusal.{unless, Outcome, refused, accepted, outcome}
 use Rattle.catalogue.specs.Catalogue.{Catalogue, mapped}
-use Rattle.catalogue.specs.Ranking.{rankingRefusal, RanksIn}
+use Rattle.catalogue.specs.Ranking.{rankingOutcome, RanksIn}
 use Rattle.catalogue.specs.declared.ranks.Ranking.{Ranking}
 use Rattle.columns.specs.Posting.{Posting}
 use Rattle.seeds.specs.Seeds.{keysOf, ranksOf, positionsOf}
@@ -30,7 +30,7 @@ planned q c = outcome (planRefusal q c) (record { targets = length (mapped c); p
 
 -- the ranking of a catalogue whose seed length is tested too
 pub record PlanRanked (q : ℕ) (c : Catalogue) (r : Ranking) (buffer : List ℕ) : Type 0 where
-  pub refusal : rankingRefusal r ≡ planRefusal q c
+  pub answer : rankingOutcome r ≡ outcome (planRefusal q c) (length (mapped c))
   pub ranks : RanksIn c r buffer
 
 -- ---- build

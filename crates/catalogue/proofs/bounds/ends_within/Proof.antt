@@ -28,12 +28,12 @@ shared-slice-read-end c = search needs
 returns : tie.Need-returns Inv-loop μ-loop
 returns c =
     let a = c .before .before .before .before .args in
-    sym (c .before .before .before .loop .inv .1 ∙ falls _ _ (a .ends .now) _ (c .before .before .loop-test .taken) (c .if1 .taken))
+    sym (c .before .before .before .loop .inv .1 ∙ falls (c .before .before .before .loop .from) _ (a .ends .now) _ (c .before .before .loop-test .taken) (omega (arith, c .if1 .taken)))
 
 returns-2 : tie.Need-returns-2 Inv-loop μ-loop
 returns-2 c =
     let a = c .before .before .before .before .before .args in
-    sym (c .before .before .before .before .loop .inv .1 ∙ passes-most _ _ (a .ends .now) _ (c .before .before .before .loop-test .taken) (c .before .if1 .left) (c .if2 .taken))
+    sym (c .before .before .before .before .loop .inv .1 ∙ passes-most (c .before .before .before .before .loop .from) _ (a .ends .now) _ (c .before .before .before .loop-test .taken) (omega (arith, c .before .if1 .left)) (omega (arith, c .if2 .taken)))
 
 add-i : tie.Need-add-i Inv-loop μ-loop
 add-i c = search needs
@@ -44,7 +44,7 @@ loop-less c = search needs
 loop-again : tie.Need-loop-again Inv-loop μ-loop
 loop-again c =
     let a = c .before .before .before .before .before .args in
-    (omega arith, c .before .before .before .before .loop .inv .1 ∙ stays-within _ _ (a .ends .now) _ (c .before .before .before .loop-test .taken) (c .before .if1 .left) (c .if2 .left))
+    (omega arith, c .before .before .before .before .loop .inv .1 ∙ stays-within (c .before .before .before .before .loop .from) _ (a .ends .now) _ (c .before .before .before .loop-test .taken) (omega (arith, c .before .if1 .left)) (omega (arith, c .if2 .left)))
 
 returns-3 : tie.Need-returns-3 Inv-loop μ-loop
 returns-3 c = sym (c .before .loop .inv .1 ∙ ap (endsWithin _ _) (drop-of-length-le _ (c .loop-test .left)))

@@ -4,7 +4,7 @@ use native.Mathlib.Omega.{arith}
 use borrow.Author.Needs.{needs}
 use mathlib.Core.Path.{_≡_, refl, sym, _∙_}
 use Prim.Native.Nat.{_≤_, _-_}
-use lib.ListN.{length, drop}
+use lib.ListN.{length, getD, drop}
 use lib.Dec.{leb}
 use borrow.Author.Tests.{lt-leb, le-leb}
 use Rattle.lists.specs.Filter.{every}
@@ -26,8 +26,9 @@ shared-slice-read-if1 c = search needs
 
 returns : tie.Need-returns Inv-loop μ-loop
 returns c =
-    let a = c .before .before .before .before .args in
-    sym (c .before .before .before .loop .inv .1 ∙ every-fails (λ m. leb m 1) 0 (a .marks .now) _ (c .before .before .loop-test .taken) (lt-leb _ _ (c .if1 .taken)))
+    let l = c .before .before .before in
+    let marks = l .before .args .marks .now in
+    sym (l .loop .inv .1 ∙ every-fails (λ m. leb m 1) 0 marks (l .loop .i) (c .before .before .loop-test .taken) (lt-leb (getD marks (l .loop .i) 0) 1 (omega (arith, c .if1 .taken))))
 
 add-i : tie.Need-add-i Inv-loop μ-loop
 add-i c = search needs
@@ -37,8 +38,9 @@ loop-less c = search needs
 
 loop-again : tie.Need-loop-again Inv-loop μ-loop
 loop-again c =
-    let a = c .before .before .before .before .args in
-    (omega arith, c .before .before .before .loop .inv .1 ∙ every-passes (λ m. leb m 1) 0 (a .marks .now) _ (c .before .before .loop-test .taken) (le-leb _ _ (c .if1 .left)))
+    let l = c .before .before .before in
+    let marks = l .before .args .marks .now in
+    (omega arith, l .loop .inv .1 ∙ every-passes (λ m. leb m 1) 0 marks (l .loop .i) (c .before .before .loop-test .taken) (le-leb (getD marks (l .loop .i) 0) 1 (omega (arith, c .if1 .left))))
 
 returns-2 : tie.Need-returns-2 Inv-loop μ-loop
 returns-2 c = let a = c .before .before .args in sym (c .before .loop .inv .1 ∙ every-end (λ m. leb m 1) (a .marks .now) _ (c .loop-test .left))

@@ -3,8 +3,8 @@
 use native.Mathlib.Omega.{arith}
 use borrow.Author.Needs.{needs}
 use Prim.Native.Nat.{_-_}
-use lib.ListN.{length}
-use Rattle.catalogue.specs.Ranking.{linearAt}
+use lib.ListN.{length, getD}
+use Rattle.catalogue.specs.Ranking.{linearAt, PlaceKept}
 use Rattle.catalogue.proofs.Filtering.{Filtering, filtering-start, filtering-next, filtering-end, element-below}
 use Rattle.catalogue.proofs.ranks.keep_linear.Statement.{statement}
 use Rattle.catalogue.proofs.ranks.keep_linear.Tie as tie
@@ -38,10 +38,17 @@ add-i c = search needs
 loop-less : tie.Need-loop-less Inv-loop μ-loop
 loop-less c = search needs
 
+-- the i-th place is kept where it is linear
+kept : (c : tie.After-keep-place Inv-loop μ-loop) → let l = c .before .before .before .before .before in
+    let place = getD (l .loop .order) (l .loop .i) 0 in
+    PlaceKept (linearAt (l .before .before .before .args .marks .now) place) (l .loop .kept) place (l .loop .order) (c .keep-place .result) (c .keep-place .last .0)
+kept c = c .keep-place .ensures
+
 loop-again : tie.Need-loop-again Inv-loop μ-loop
 loop-again c =
-    let a = c .before .before .before .before .before .before .before .before .before .before .args in
-    filtering-next (linearAt (a .marks .now)) (a .order .now) (c .before .before .before .before .before .before .before .loop .order) _ _ (c .before .before .before .before .before .before .before .loop .inv) (omega (arith, c .before .before .before .before .before .before .before .loop .inv .long)) _ _ (c .before .before .keep-place .ensures .0) (c .before .before .keep-place .ensures .1)
+    let l = c .before .before .before .before .before .before .before in
+    let a = l .before .before .before .args in
+    filtering-next (linearAt (a .marks .now)) (a .order .now) (l .loop .order) _ _ (l .loop .inv) (omega (arith, l .loop .inv .long)) (kept (c .before .before))
 
 same-length : tie.Need-same-length Inv-loop μ-loop
 same-length c = omega arith

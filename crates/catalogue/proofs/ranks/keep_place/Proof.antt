@@ -24,7 +24,7 @@ returns : tie.Need-returns
 returns c =
     let a = c .before .args in
     let e = sym (c .if1 .taken) in
-    (ap (λ t. cond t (a .kept + 1) (a .kept)) e, ap (λ t. cond t (set (a .order .now) (a .kept) (a .place)) (a .order .now)) e)
+    record { count = ap (λ t. cond t (a .kept + 1) (a .kept)) e; places = ap (λ t. cond t (set (a .order .now) (a .kept) (a .place)) (a .order .now)) e }
 
 returns-2 : tie.Need-returns-2
 returns-2 c = search needs

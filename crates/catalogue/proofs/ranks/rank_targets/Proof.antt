@@ -1,56 +1,66 @@
 -- `catalogue::ranks::rank_targets` meets its contract, by the checks in their order.
 -- Assumes nothing.
+use mathlib.Core.Path.{_≡_, sym, _∙_}
+use mathlib.Core.Bool.{true}
+use Prim.Native.Nat.{_≤_}
 use native.Mathlib.Omega.{arith}
-use mathlib.Core.Path.{sym, _∙_}
+use lib.ListN.{length}
 use lib.Seq.{length-take-le}
 use borrow.Author.Tests.{not-true, not-false}
-use Rattle.catalogue.proofs.Checks.{bounded}
+use Rattle.catalogue.specs.Catalogue.{Catalogue, inBounds}
+use Rattle.catalogue.proofs.Checks.{Bounded, bounded}
 use Rattle.catalogue.proofs.Refusals.{out-of-bounds, bad-bases, ranked-as}
 use borrow.Author.Needs.{needs}
 use Rattle.catalogue.proofs.ranks.rank_targets.Statement.{statement}
 use Rattle.catalogue.proofs.ranks.rank_targets.Tie as tie
 
+-- the catalogue that is lent
+abbrev lent : tie.After-shared-slice-known5 → Catalogue
+lent c =
+    let a = c .before .before .before .before .before .before .args in
+    record { identifiers = a .identifiers .now; identifierEnds = a .identifier-ends .now; bases = a .bases .now; baseEnds = a .base-ends .now; marks = a .marks .now }
+
+within : (c : tie.Else1) → inBounds (lent (c .before .before)) ≡ true
+within c = sym (c .before .in-bounds .ensures) ∙ not-false _ (c .if1 .left)
+
+bounds : (c : tie.Else1) → Bounded (lent (c .before .before))
+bounds c = bounded (lent (c .before .before)) (within c)
+
+room : (c : tie.Else1) → length (lent (c .before .before) .identifierEnds) ≤ length (c .before .before .before .before .before .before .before .before .args .ranked .now)
+room c = omega (arith, bounds c .few, c .before .before .before .before .before .before .before .before .pre)
+
 in-bounds-requires : tie.Need-in-bounds-requires
 in-bounds-requires c κs = search needs
 
 returns : tie.Need-returns
-returns c = out-of-bounds _ (sym (c .before .in-bounds .ensures) ∙ not-true _ (c .if1 .taken)) _
+returns c = out-of-bounds (lent (c .before .before)) (sym (c .before .in-bounds .ensures) ∙ not-true _ (c .if1 .taken)) (omega arith) _
 
 all-proper-requires : tie.Need-all-proper-requires
-all-proper-requires c κs = let w = sym (c .before .in-bounds .ensures) ∙ not-false _ (c .if1 .left) in bounded _ w .based
+all-proper-requires c κs = bounds c .based
 
 returns-2 : tie.Need-returns-2
-returns-2 c =
-    let w = sym (c .before .before .before .in-bounds .ensures) ∙ not-false _ (c .before .before .if1 .left) in
-    bad-bases _ w (sym (c .before .all-proper .ensures) ∙ not-true _ (c .if2 .taken)) _
+returns-2 c = bad-bases (lent (c .before .before .before .before)) (within (c .before .before)) (sym (c .before .all-proper .ensures) ∙ not-true _ (c .if2 .taken)) (omega arith) _
 
 slice-relend-prefix-rank-names : tie.Need-slice-relend-prefix-rank-names
-slice-relend-prefix-rank-names c =
-    let b = bounded _ (sym (c .before .before .before .in-bounds .ensures) ∙ not-false _ (c .before .before .if1 .left)) in
-    omega (arith, b .few, c .before .before .before .before .before .before .before .before .before .before .pre)
+slice-relend-prefix-rank-names c = room (c .before .before)
 
 slice-aggregate-rank-names : tie.Need-slice-aggregate-rank-names
-slice-aggregate-rank-names c =
-    let t = c .before in
-    let b = bounded _ (sym (t .before .before .before .in-bounds .ensures) ∙ not-false _ (t .before .before .if1 .left)) in
-    sym (length-take-le _ _ (omega (arith, b .few, t .before .before .before .before .before .before .before .before .before .before .pre)))
+slice-aggregate-rank-names c = sym (length-take-le _ _ (room (c .before .before .before)))
 
 rank-names-requires : tie.Need-rank-names-requires
 rank-names-requires c κs =
-    let t = c .before in
-    let b = bounded _ (sym (t .before .before .before .in-bounds .ensures) ∙ not-false _ (t .before .before .if1 .left)) in
-    (b .named, (length-take-le _ _ (omega (arith, b .few, t .before .before .before .before .before .before .before .before .before .before .pre)), (b .marked, b .few)))
+    let e = c .before .before .before in
+    let b = bounds e in
+    record { lent = record { right = b .named; sized = length-take-le _ _ (room e); few = b .few }; marked = b .marked }
 
 same-length : tie.Need-same-length
 same-length c = search needs
 
 returns-3 : tie.Need-returns-3
 returns-3 c =
-    let t = c .before .before .before .before in
-    let w = sym (t .before .before .before .in-bounds .ensures) ∙ not-false _ (t .before .before .if1 .left) in
-    let p = sym (t .before .all-proper .ensures) ∙ not-false _ (t .if2 .left) in
-    let r = c .before .before .rank-names in
-    ranked-as _ w p (r .result) (r .last .0) _ (r .kept .0 ∙ length-take-le _ _ (omega (arith, bounded _ w .few, t .before .before .before .before .before .before .before .before .before .before .pre))) (r .ensures)
+    let p = c .before .before .before .before in
+    let e = p .before .before in
+    ranked-as (lent (e .before .before)) (within e) (sym (p .before .all-proper .ensures) ∙ not-false _ (p .if2 .left)) _ (c .before .before .rank-names .ensures)
 
 pub rank-targets-spec : {M : Type 1} → statement M
 rank-targets-spec =

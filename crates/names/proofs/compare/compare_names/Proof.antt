@@ -1,4 +1,4 @@
--- `catalogue::names::compare_names` meets its contract. The invariant: the names are equal before byte i.
+-- `names::compare::compare_names` meets its contract. The invariant: the names are equal before byte i.
 -- Assumes nothing.
 use borrow.Author.Needs.{needs}
 use Prim.Native.Nat.{_-_}

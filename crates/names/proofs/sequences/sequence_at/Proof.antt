@@ -1,4 +1,4 @@
--- `catalogue::names::sequence_at` meets its contract: a sequence by its place.
+-- `names::sequences::sequence_at` meets its contract: a sequence by its place.
 -- Assumes nothing.
 use native.Mathlib.Omega.{arith}
 use mathlib.Core.Path.{sym, ap, _∙_}

@@ -1,4 +1,4 @@
--- `catalogue::names::start_at` meets its contract, by whether an end stands before.
+-- `names::sequences::start_at` meets its contract, by whether an end stands before.
 -- Assumes nothing.
 use Rattle.lists.proofs.Cut.{start-before}
 use borrow.Author.Needs.{needs}
