@@ -3,3 +3,4 @@ pub mod Choosing
 pub mod Moving
 pub mod Waiting
 pub mod Sooner
+pub mod Fewest

@@ -11,27 +11,28 @@ use lib.Dec.{leb}
 use borrow.Author.Tests.{leb-true, leb-false, le-leb, lt-leb}
 use Rattle.lists.proofs.Cases.{by-test, clash, compare, and-true}
 use Rattle.columns.specs.Posting.{Posting}
+use Rattle.seeds.specs.Window.{fitsIn}
 use Rattle.candidates.specs.Search.{fits, lies}
 use Rattle.candidates.specs.Cursor.{postingAt, NoneFrom, Moved}
 
-module _ (m n o x : ℕ) where
-  pub starts-before : x < o → false ≡ fits m n o x
+module _ (s : List ℕ) (n o x : ℕ) where
+  pub starts-before : x < o → false ≡ fits s n o x
   starts-before h = rw (lt-leb o x h)
 
-  pub ends-past : o ≤ x → m < n → false ≡ fits m n o x
-  ends-past f h = rw (le-leb o x f, lt-leb (x - o + n) m (omega arith))
+  pub ends-past : o ≤ x → length s < n → false ≡ fits s n o x
+  ends-past f h = rw (le-leb o x f, lt-leb (x - o + n) (length s) (omega arith))
 
-  pub room-left : o ≤ x → n ≤ m → leb (x - o) (m - n) ≡ fits m n o x
+  pub room-left : o ≤ x → n ≤ length s → leb (x - o) (length s - n) ≡ fits s n o x
   room-left f h =
-      by-test (leb (x - o) (m - n)) (λ t. rw (le-leb o x f, t, le-leb (x - o + n) m (omega (arith, leb-true (x - o) (m - n) t))))
-      (λ t. rw (le-leb o x f, t, lt-leb (x - o + n) m (omega (arith, leb-false (x - o) (m - n) t))))
+      by-test (leb (x - o) (length s - n)) (λ t. rw (le-leb o x f, t, le-leb (x - o + n) (length s) (omega (arith, leb-true (x - o) (length s - n) t))))
+      (λ t. rw (le-leb o x f, t, lt-leb (x - o + n) (length s) (omega (arith, leb-false (x - o) (length s - n) t))))
 
   -- what has room does not start before 0
-  pub room-after : fits m n o x ≡ true → o ≤ x
-  room-after e = leb-true o x (and-true (leb o x) (leb (x - o + n) m) e .0)
+  pub room-after : fits s n o x ≡ true → o ≤ x
+  room-after e = leb-true o x (and-true (leb o x) (fitsIn n s (x - o)) e .0)
 
 -- the test of a posting, made on its numbers and its sequence
-pub posting-lies : (ss : List (List ℕ)) (n o : ℕ) (rs os : List ℕ) (i rank position : ℕ) (s : List ℕ) (r : Bool) → rank ≡ getD rs i 0 → position ≡ getD os i 0 → s ≡ getD ss rank [] → r ≡ fits (length s) n o position → r ≡ lies ss n o (postingAt rs os i)
+pub posting-lies : (ss : List (List ℕ)) (n o : ℕ) (rs os : List ℕ) (i rank position : ℕ) (s : List ℕ) (r : Bool) → rank ≡ getD rs i 0 → position ≡ getD os i 0 → s ≡ getD ss rank [] → r ≡ fits s n o position → r ≡ lies ss n o (postingAt rs os i)
 posting-lies ss n o rs os i rank position s r er ep es e = rw (← er, ← ep, ← es) e
 
 -- the postings from `next` up to i are passed over
@@ -62,13 +63,15 @@ module _ (passes : Posting → Bool) (rs os : List ℕ) (next end : ℕ) where
           found-behind = λ f. omega (arith, w .from);
           none-left = λ f. clash refl f;
           none-end = λ f. clash refl f;
+          none-rank = λ f. clash refl f;
+          none-start = λ f. clash refl f;
         }
       where
         last : i + 1 - 1 ≡ i
         last = omega arith
 
-    pub passing-end : (o rank start : ℕ) → end ≤ i → Moved passes rs os o next end end false rank start
-    passing-end o rank start h =
+    pub passing-end : (o : ℕ) → end ≤ i → Moved passes rs os o next end end false 0 0
+    passing-end o h =
         record {
           found-first = λ f. clash f refl;
           found-rank = λ f. clash f refl;
@@ -76,4 +79,6 @@ module _ (passes : Posting → Bool) (rs os : List ℕ) (next end : ℕ) where
           found-behind = λ f. clash f refl;
           none-left = λ _ j f l. w .skipped j f (omega arith);
           none-end = λ _. refl;
+          none-rank = λ _. refl;
+          none-start = λ _. refl;
         }

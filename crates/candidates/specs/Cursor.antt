@@ -33,7 +33,8 @@ pub record FirstAt (passes : Posting → Bool) (rs os : List ℕ) (next end last
 abbrev pub NoneFrom : (Posting → Bool) → List ℕ → List ℕ → ℕ → ℕ → Type 0
 NoneFrom passes rs os next end = (i : ℕ) → next ≤ i → i < end → passes (postingAt rs os i) ≡ false
 
--- a cursor with a seed at offset o moved on to `next′`: behind the first posting that passes, or to the end
+-- a cursor with a seed at offset o moved on to `next′`: behind the first posting that passes, or to the end with rank and
+-- start 0
 pub record Moved (passes : Posting → Bool) (rs os : List ℕ) (o next end next′ : ℕ) (found : Bool) (rank start : ℕ) : Type 0 where
   pub found-first : found ≡ true → FirstAt passes rs os next end (next′ - 1)
   pub found-rank : found ≡ true → rank ≡ getD rs (next′ - 1) 0
@@ -41,6 +42,8 @@ pub record Moved (passes : Posting → Bool) (rs os : List ℕ) (o next end next
   pub found-behind : found ≡ true → next < next′
   pub none-left : found ≡ false → NoneFrom passes rs os next end
   pub none-end : found ≡ false → next′ ≡ end
+  pub none-rank : found ≡ false → rank ≡ 0
+  pub none-start : found ≡ false → start ≡ 0
 
 -- a cursor over postings of sequences moved on, for a read of n bases, and is handed back with its candidate
 pub record Taken (ss : List (List ℕ)) (n : ℕ) (rs os : List ℕ) (c : OrientationCursor) (r : Candidate) : Type 0 where
@@ -54,6 +57,11 @@ pub record Taken (ss : List (List ℕ)) (n : ℕ) (rs os : List ℕ) (c : Orient
 -- the candidate of '+' waits, and none of '-' does or stands before it
 abbrev pub plusFirst : Sides → Bool
 plusFirst s = s .plus .found && (not (s .minus .found) || before (place (s .plus .rank) (s .plus .start) 0) (place (s .minus .rank) (s .minus .start) 1))
+
+-- the postings of both are in the columns
+pub record CursorsIn (rs os : List ℕ) (n : ℕ) (plus minus : OrientationCursor) : Type 0 where
+  pub plus-in : CursorIn rs os n (plus .next) (plus .end)
+  pub minus-in : CursorIn rs os n (minus .next) (minus .end)
 
 -- both took their first candidate
 pub record BothTaken (ss : List (List ℕ)) (n : ℕ) (rs os : List ℕ) (plus minus : OrientationCursor) (r : Sides) : Type 0 where

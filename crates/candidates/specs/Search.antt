@@ -13,7 +13,7 @@ use Rattle.names.specs.Ordered.{numbers}
 use Rattle.bases.specs.Read.{oriented}
 use Rattle.columns.specs.Posting.{Posting}
 use Rattle.seeds.specs.Key.{keyOf}
-use Rattle.seeds.specs.Window.{starts}
+use Rattle.seeds.specs.Window.{fitsIn, starts}
 use Rattle.lookup.specs.Range.{RangeOf}
 use Rattle.index.specs.Index.{indexOf, hits}
 use Rattle.places.specs.Place.{Place, place, before, places, matches}
@@ -34,12 +34,12 @@ rarest n count = fewest count 0 (tried n count)
 
 -- ---- the candidate of a posting, for a seed at offset o of a read of n bases
 
--- at position x, it neither starts before 0 nor ends past the m bases of its target
-abbrev pub fits : ℕ → ℕ → ℕ → ℕ → Bool
-fits m n o x = leb o x && leb (x - o + n) m
+-- at position x, it neither starts before 0 nor ends past its target
+abbrev pub fits : List ℕ → ℕ → ℕ → ℕ → Bool
+fits s n o x = leb o x && fitsIn n s (x - o)
 
 abbrev pub lies : List (List ℕ) → ℕ → ℕ → Posting → Bool
-lies ss n o p = fits (length (getD ss (p .rank) [])) n o (p .position)
+lies ss n o p = fits (getD ss (p .rank) []) n o (p .position)
 
 -- its position less the seed's offset
 abbrev pub candidate : ℕ → ℕ → Posting → Place

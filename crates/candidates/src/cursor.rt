@@ -25,17 +25,17 @@ pub struct Candidate {
     pub start: usize,
 }
 
-// Whether a target of m bases has room for a read of n bases whose base `offset` stands at a position.
-fn has_room(m: usize, n: usize, offset: usize, position: usize) -> bool
-    ensures { λ r. ⌜ r ≡ fits m n offset position ⌝ }
+// Whether a target has room for a read of n bases whose base `offset` stands at a position.
+fn has_room(sequence: &[u8], n: usize, offset: usize, position: usize) -> bool
+    ensures { λ r. ⌜ r ≡ fits (old sequence) n offset position ⌝ }
 {
     if position < offset {
         return false;
     }
-    if m < n {
+    if sequence.len() < n {
         return false;
     }
-    position - offset <= m - n
+    position - offset <= sequence.len() - n
 }
 
 impl OrientationCursor {
@@ -58,7 +58,7 @@ impl OrientationCursor {
             let position = posting_position(positions, i);
             let sequence = ranked_sequence(bases, ends, ranked, rank);
             i += 1;
-            if has_room(sequence.len(), n, self.offset, position) {
+            if has_room(sequence, n, self.offset, position) {
                 return Candidate {
                     cursor: OrientationCursor {
                         strand: self.strand,

@@ -4,7 +4,7 @@ ghost use mathlib.Core.Bool.{_||_, cond};
 ghost use lib.ListN.{length};
 ghost use Rattle.promises.specs.Slice.{old};
 ghost use Rattle.index.specs.Index.{Lent, lentSequences};
-ghost use Rattle.candidates.specs.Cursor.{CursorIn, plusFirst, BothTaken, OneMoved};
+ghost use Rattle.candidates.specs.Cursor.{CursorsIn, plusFirst, BothTaken, OneMoved};
 use crate::cursor::Candidate;
 use crate::cursor::OrientationCursor;
 
@@ -24,7 +24,7 @@ pub fn first_candidates(
     positions: &[u64],
     n: usize,
 ) -> Sides
-    requires { ⌜ Lent (now bases) (now ends) (now ranked) × (CursorIn (now ranks) (now positions) (length (now ranked)) (plus .next) (plus .end) × CursorIn (now ranks) (now positions) (length (now ranked)) (minus .next) (minus .end)) ⌝ }
+    requires { ⌜ Lent (now bases) (now ends) (now ranked) × CursorsIn (now ranks) (now positions) (length (now ranked)) plus minus ⌝ }
     ensures { λ r. ⌜ BothTaken (lentSequences bases ends ranked) n (old ranks) (old positions) plus minus r ⌝ }
 {
     let forward = plus.next_candidate(bases, ends, ranked, ranks, positions, n);
@@ -83,7 +83,7 @@ impl Sides {
         positions: &[u64],
         n: usize,
     ) -> Sides
-        requires { ⌜ Lent (now bases) (now ends) (now ranked) × (CursorIn (now ranks) (now positions) (length (now ranked)) (self .plus .cursor .next) (self .plus .cursor .end) × CursorIn (now ranks) (now positions) (length (now ranked)) (self .minus .cursor .next) (self .minus .cursor .end)) ⌝ }
+        requires { ⌜ Lent (now bases) (now ends) (now ranked) × CursorsIn (now ranks) (now positions) (length (now ranked)) (self .plus .cursor) (self .minus .cursor) ⌝ }
         ensures { λ r. ⌜ OneMoved (lentSequences bases ends ranked) n (old ranks) (old positions) plus self r ⌝ }
     {
         let forward = self.plus;

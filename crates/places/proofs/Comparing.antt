@@ -18,7 +18,7 @@ use Rattle.bases.specs.Base.{isCapital, codeOf, upperOf}
 use Rattle.bases.specs.Read.{folded, capitals, letters, oriented}
 use Rattle.bases.proofs.Bytes.{code-upper, codes-decide}
 use Rattle.bases.proofs.Turning.{folded-turned, letters-turned, length-oriented}
-use Rattle.places.specs.Place.{Laid, standsTo}
+use Rattle.places.specs.Place.{Laid, stands, standsTo}
 
 -- ---- a folded read on a strand
 
@@ -36,7 +36,7 @@ module _ (s : List ℕ) (start : ℕ) (read : List ℕ) (strand : ℕ) where
   pub compared-differ : (i j : ℕ) → i ≤ j → standsTo i s start read strand ≡ false → standsTo j s start read strand ≡ false
   compared-differ i j h t = differ-next (drop start s) (oriented strand (folded read)) i j h t
 
-  pub compared-all : standsTo (length read) s start read strand ≡ same (window s start (length read)) (oriented strand (folded read))
+  pub compared-all : standsTo (length read) s start read strand ≡ stands s start read strand
   compared-all = ap (same (window s start (length read))) (take-all (length read) (oriented strand (folded read)) (omega (arith, length-oriented strand (folded read), length-map read upperOf)))
 
   -- base i as well

@@ -7,9 +7,8 @@ use lib.ListN.{length, getD, take}
 use Rattle.lists.specs.Filter.{filter}
 use Rattle.lists.specs.Same.{same}
 use Rattle.lists.specs.Triple.{Triple, lexicographic}
-use Rattle.lists.specs.Cut.{window}
 use Rattle.bases.specs.Read.{folded, capitals, letters, oriented}
-use Rattle.seeds.specs.Window.{starts}
+use Rattle.seeds.specs.Window.{windowOf, FitsIn, starts}
 
 -- the rank of a sequence, a start in it, and the strand: 0 for '+', 1 for '-'
 pub record Place : Type 0 where
@@ -30,7 +29,7 @@ before p q = lexicographic (triple p) (triple q)
 -- n bases fit at a place
 pub record Fits (n : ℕ) (ss : List (List ℕ)) (p : Place) : Type 0 where
   pub ranked : p .rank < length ss
-  pub inside : p .start + n ≤ length (getD ss (p .rank) [])
+  pub inside : FitsIn n (getD ss (p .rank) []) (p .start)
   pub stranded : p .strand < 2
 
 -- both strands at k starts from s on
@@ -53,17 +52,21 @@ maxRead = 65535
 
 -- a read of letters in either case laid at a start of a sequence of capitals, within it
 pub record Laid (s : List ℕ) (start : ℕ) (read : List ℕ) : Type 0 where
-  pub fits : start + length read ≤ length s
+  pub fits : FitsIn (length read) s start
   pub capitals : capitals s ≡ true
   pub letters : letters read ≡ true
 
--- the first i bases of a read, in upper case and as it lies on a strand, stand at a start of a sequence
-abbrev pub standsTo : ℕ → List ℕ → ℕ → List ℕ → ℕ → Bool
-standsTo i s start read strand = same (window s start i) (take i (oriented strand (folded read)))
+-- the read, in upper case and as it lies on a strand, stands base for base at a start of a sequence
+abbrev pub stands : List ℕ → ℕ → List ℕ → ℕ → Bool
+stands s start read strand = same (windowOf s start (length read)) (oriented strand (folded read))
 
--- the read, in upper case and as it lies on the strand, stands base for base at the place
+-- its first i bases do
+abbrev pub standsTo : ℕ → List ℕ → ℕ → List ℕ → ℕ → Bool
+standsTo i s start read strand = same (windowOf s start i) (take i (oriented strand (folded read)))
+
+-- the read stands at the place
 unfoldable pub matches : List (List ℕ) → List ℕ → Place → Bool
-matches ss read p = same (window (getD ss (p .rank) []) (p .start) (length read)) (oriented (p .strand) (folded read))
+matches ss read p = stands (getD ss (p .rank) []) (p .start) read (p .strand)
 
 -- every place where the read matches, ascending
 unfoldable pub groups : List (List ℕ) → List ℕ → List Place

@@ -3,11 +3,8 @@ ghost use mathlib.Core.Path.{_≡_};
 ghost use mathlib.Core.Bool.{true};
 ghost use Prim.Native.Nat.{_<_, _≤_};
 ghost use lib.ListN.{length};
-ghost use Rattle.lists.specs.Same.{same};
-ghost use Rattle.lists.specs.Cut.{window};
 ghost use Rattle.promises.specs.Slice.{old};
-ghost use Rattle.bases.specs.Read.{folded, oriented};
-ghost use Rattle.places.specs.Place.{Laid, standsTo};
+ghost use Rattle.places.specs.Place.{Laid, stands, standsTo};
 use bases::strand::oriented_agrees;
 
 // How many bases are compared at once: enough for a comparison of many bases by one instruction.
@@ -39,7 +36,7 @@ fn stretch_agrees(
 // Whether a read stands at a start of a sequence, which has capitals; the read has letters in either case.
 pub fn stands_at(sequence: &[u8], start: usize, read: &[u8], strand: u64) -> bool
     requires { ⌜ Laid (now sequence) start (now read) ⌝ }
-    ensures { λ r. ⌜ r ≡ same (window (old sequence) start (length (old read))) (oriented strand (folded (old read))) ⌝ }
+    ensures { λ r. ⌜ r ≡ stands (old sequence) start (old read) strand ⌝ }
 {
     let mut i = 0;
     while STRETCH <= read.len() - i {

@@ -9,7 +9,7 @@ use lib.Seq.{take-all}
 use Rattle.seeds.specs.Window.{starts}
 use Rattle.catalogue.specs.Catalogue.{maxTargets, maxBases}
 use Rattle.places.specs.Place.{Place, place, placesIn, placesFrom, places}
-use Rattle.scan.specs.Searched.{Going, Searched}
+use Rattle.scan.specs.Searched.{maxCount, maxPlaces, Going, Searched}
 use Rattle.scan.proofs.Going.{Progress, progress-none, progress-length, progress-going, progress-more, progress-stop}
 
 -- ---- places, one start and one rank more
@@ -50,17 +50,17 @@ module _ (ss : List (List ℕ)) (ranked read : List ℕ) (bound rank : ℕ) (com
     pub upto : start ≤ starts (length read) (getD ss rank [])
     pub progress : Progress ss ranked read bound comparisons seen buffer (placesIn rank 0 start) c s b
 
-  module _ (g : Going bound 33554434 comparisons seen buffer) where
+  module _ (g : Going bound maxPlaces comparisons seen buffer) where
     pub starts-none : StartsTo 0 comparisons seen buffer
-    starts-none = record { upto = omega arith; progress = progress-none ss ranked read bound comparisons seen buffer 33554434 g }
+    starts-none = record { upto = omega arith; progress = progress-none ss ranked read bound comparisons seen buffer maxPlaces g }
 
     pub starts-length : (start c s : ℕ) (b : List ℕ) → StartsTo start c s b → length b ≡ length buffer
-    starts-length start c s b at = progress-length ss ranked read bound comparisons seen buffer 33554434 g (placesIn rank 0 start) c s b (at .progress)
+    starts-length start c s b at = progress-length ss ranked read bound comparisons seen buffer maxPlaces g (placesIn rank 0 start) c s b (at .progress)
 
     module _ (long : length (getD ss rank []) ≤ maxBases) (start c s : ℕ) (b : List ℕ) (at : StartsTo start c s b) where
       module _ (fits : start + length read ≤ length (getD ss rank [])) where
         pub starts-going : Going bound 2 c s b
-        starts-going = progress-going ss ranked read bound comparisons seen buffer 33554434 g (placesIn rank 0 start) c s b (at .progress) 2 (omega (arith, length-placesIn rank 0 start))
+        starts-going = progress-going ss ranked read bound comparisons seen buffer maxPlaces g (placesIn rank 0 start) c s b (at .progress) 2 (omega (arith, length-placesIn rank 0 start))
 
         module _ (c′ s′ : ℕ) (b′ : List ℕ) (t : Searched ss ranked read bound (place rank start 0 ∷ place rank start 1 ∷ []) c s b c′ s′ b′) where
           one-start : placesIn rank 0 start ++ (place rank start 0 ∷ place rank start 1 ∷ []) ≡ placesIn rank 0 (start + 1)
@@ -69,13 +69,13 @@ module _ (ss : List (List ℕ)) (ranked read : List ℕ) (bound rank : ℕ) (com
           pub starts-stop : bound < s′ → Searched ss ranked read bound (placesIn rank 0 (starts (length read) (getD ss rank []))) comparisons seen buffer c′ s′ b′
           starts-stop h =
               let e : starts (length read) (getD ss rank []) ≡ start + 1 + (starts (length read) (getD ss rank []) - (start + 1)) = omega (arith, at .upto) in
-              rw (e, placesIn-split rank 0 (start + 1), ← one-start) (progress-stop ss ranked read bound comparisons seen buffer 33554434 g (placesIn rank 0 start) c s b (at .progress) (place rank start 0 ∷ place rank start 1 ∷ []) c′ s′ b′ t h _)
+              rw (e, placesIn-split rank 0 (start + 1), ← one-start) (progress-stop ss ranked read bound comparisons seen buffer maxPlaces g (placesIn rank 0 start) c s b (at .progress) (place rank start 0 ∷ place rank start 1 ∷ []) c′ s′ b′ t h _)
 
           pub starts-more : s′ ≤ bound → StartsTo (start + 1) c′ s′ b′
           starts-more h =
               record {
                 upto = omega arith;
-                progress = rw (← one-start) (progress-more ss ranked read bound comparisons seen buffer 33554434 g (placesIn rank 0 start) c s b (at .progress) (place rank start 0 ∷ place rank start 1 ∷ []) c′ s′ b′ t h);
+                progress = rw (← one-start) (progress-more ss ranked read bound comparisons seen buffer maxPlaces g (placesIn rank 0 start) c s b (at .progress) (place rank start 0 ∷ place rank start 1 ∷ []) c′ s′ b′ t h);
               }
 
       pub starts-all : length (getD ss rank []) < start + length read → Searched ss ranked read bound (placesIn rank 0 (starts (length read) (getD ss rank []))) comparisons seen buffer c s b
@@ -87,18 +87,18 @@ module _ (ss : List (List ℕ)) (ranked read : List ℕ) (bound : ℕ) (buffer :
   -- the sequences before `rank` were searched
   pub record RanksTo (rank c s : ℕ) (b : List ℕ) : Type 0 where
     pub upto : rank ≤ length ss
-    pub counted : length (placesFrom 0 (length read) (take rank ss)) ≤ rank * 33554434
+    pub counted : length (placesFrom 0 (length read) (take rank ss)) ≤ rank * maxPlaces
     pub progress : Progress ss ranked read bound 0 0 buffer (placesFrom 0 (length read) (take rank ss)) c s b
 
   module _ (given : Going bound 0 0 0 buffer) where
-    g : Going bound 137438961664 0 0 buffer
+    g : Going bound (maxTargets * maxPlaces) 0 0 buffer
     g = record { within = given .within; room = given .room; countable = omega arith }
 
     pub ranks-none : RanksTo 0 0 0 buffer
-    ranks-none = record { upto = omega arith; counted = omega arith; progress = progress-none ss ranked read bound 0 0 buffer 137438961664 g }
+    ranks-none = record { upto = omega arith; counted = omega arith; progress = progress-none ss ranked read bound 0 0 buffer (maxTargets * maxPlaces) g }
 
     pub ranks-length : (rank c s : ℕ) (b : List ℕ) → RanksTo rank c s b → length b ≡ length buffer
-    ranks-length rank c s b at = progress-length ss ranked read bound 0 0 buffer 137438961664 g (placesFrom 0 (length read) (take rank ss)) c s b (at .progress)
+    ranks-length rank c s b at = progress-length ss ranked read bound 0 0 buffer (maxTargets * maxPlaces) g (placesFrom 0 (length read) (take rank ss)) c s b (at .progress)
 
     module _ (few : length ss ≤ maxTargets) (rank c s : ℕ) (b : List ℕ) (at : RanksTo rank c s b) where
       abbrev done : List Place
@@ -108,8 +108,8 @@ module _ (ss : List (List ℕ)) (ranked read : List ℕ) (bound : ℕ) (buffer :
       next = placesIn rank 0 (starts (length read) (getD ss rank []))
 
       module _ (below : rank < length ss) where
-        pub ranks-going : Going bound 33554434 c s b
-        ranks-going = progress-going ss ranked read bound 0 0 buffer 137438961664 g done c s b (at .progress) 33554434 (omega (arith, at .counted))
+        pub ranks-going : Going bound maxPlaces c s b
+        ranks-going = progress-going ss ranked read bound 0 0 buffer (maxTargets * maxPlaces) g done c s b (at .progress) maxPlaces (omega (arith, at .counted))
 
         module _ (long : length (getD ss rank []) ≤ maxBases) (c′ s′ : ℕ) (b′ : List ℕ) (t : Searched ss ranked read bound next c s b c′ s′ b′) where
           one-rank : done ++ next ≡ placesFrom 0 (length read) (take (rank + 1) ss)
@@ -117,14 +117,14 @@ module _ (ss : List (List ℕ)) (ranked read : List ℕ) (bound : ℕ) (buffer :
 
           pub ranks-stop : bound < s′ → Searched ss ranked read bound (places (length read) ss) 0 0 buffer c′ s′ b′
           unfolding places
-          ranks-stop h = rw (placesFrom-split 0 (length read) (rank + 1) ss, ← one-rank) (progress-stop ss ranked read bound 0 0 buffer 137438961664 g done c s b (at .progress) next c′ s′ b′ t h _)
+          ranks-stop h = rw (placesFrom-split 0 (length read) (rank + 1) ss, ← one-rank) (progress-stop ss ranked read bound 0 0 buffer (maxTargets * maxPlaces) g done c s b (at .progress) next c′ s′ b′ t h _)
 
           pub ranks-more : s′ ≤ bound → RanksTo (rank + 1) c′ s′ b′
           ranks-more h =
               record {
                 upto = omega arith;
                 counted = rw (← one-rank) (omega (arith, at .counted, length-append done next, length-placesIn rank 0 (starts (length read) (getD ss rank []))));
-                progress = rw (← one-rank) (progress-more ss ranked read bound 0 0 buffer 137438961664 g done c s b (at .progress) next c′ s′ b′ t h);
+                progress = rw (← one-rank) (progress-more ss ranked read bound 0 0 buffer (maxTargets * maxPlaces) g done c s b (at .progress) next c′ s′ b′ t h);
               }
 
       pub ranks-all : length ss ≤ rank → Searched ss ranked read bound (places (length read) ss) 0 0 buffer c s b

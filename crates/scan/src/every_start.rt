@@ -1,13 +1,9 @@
 // The search at every start: each fitting start of each sequence by rank, '+' then '-', up to the first match past the bound.
-ghost use mathlib.Core.Path.{_≡_};
-ghost use mathlib.Core.List.{_∷_, []};
 ghost use Prim.Native.Nat.{_<_};
-ghost use lib.ListN.{length, getD};
+ghost use lib.ListN.{length};
 ghost use Rattle.promises.specs.Slice.{old, new};
-ghost use Rattle.seeds.specs.Window.{starts};
-ghost use Rattle.index.specs.Index.{rankedSequences, lentSequences};
-ghost use Rattle.places.specs.Place.{place, Fits, placesIn, places};
-ghost use Rattle.scan.specs.Searched.{Searchable, Going, Searched};
+ghost use Rattle.index.specs.Index.{lentSequences};
+ghost use Rattle.scan.specs.Searched.{maxPlaces, Searchable, FitsAt, Going, StartSearched, SequenceSearched, AllSearched};
 use crate::visit::Tally;
 use crate::visit::visit;
 use index::ranked::ranked_sequence;
@@ -24,8 +20,9 @@ fn visit_both(
     start: usize,
     tally: Tally,
 ) -> Tally
-    requires { ⌜ Searchable (now bases) (now ends) (now ranked) (now read) × (Fits (length (now read)) (rankedSequences (now bases) (now ends) (now ranked)) (place rank start 0) × Going bound 2 (tally .comparisons) (tally .seen) (now entries)) ⌝ }
-    ensures { λ r. ⌜ Searched (lentSequences bases ends ranked) (old ranked) (old read) bound (place rank start 0 ∷ place rank start 1 ∷ []) (tally .comparisons) (tally .seen) (old entries) (r .comparisons) (r .seen) (new entries) ⌝ }
+    requires { ⌜ Searchable (now bases) (now ends) (now ranked) (now read) ⌝ }
+    requires { ⌜ FitsAt (now bases) (now ends) (now ranked) (now read) rank start 0 × Going bound 2 (tally .comparisons) (tally .seen) (now entries) ⌝ }
+    ensures { λ r. ⌜ StartSearched (lentSequences bases ends ranked) (old ranked) (old read) bound rank start tally (old entries) r (new entries) ⌝ }
 {
     let forward = visit(
         entries,
@@ -67,8 +64,9 @@ fn scan_sequence(
     rank: usize,
     tally: Tally,
 ) -> Tally
-    requires { ⌜ Searchable (now bases) (now ends) (now ranked) (now read) × ((rank < length (now ranked)) × Going bound 33554434 (tally .comparisons) (tally .seen) (now entries)) ⌝ }
-    ensures { λ r. ⌜ Searched (lentSequences bases ends ranked) (old ranked) (old read) bound (placesIn rank 0 (starts (length (old read)) (getD (lentSequences bases ends ranked) rank []))) (tally .comparisons) (tally .seen) (old entries) (r .comparisons) (r .seen) (new entries) ⌝ }
+    requires { ⌜ Searchable (now bases) (now ends) (now ranked) (now read) ⌝ }
+    requires { ⌜ (rank < length (now ranked)) × Going bound maxPlaces (tally .comparisons) (tally .seen) (now entries) ⌝ }
+    ensures { λ r. ⌜ SequenceSearched (lentSequences bases ends ranked) (old ranked) (old read) bound rank tally (old entries) r (new entries) ⌝ }
 {
     let sequence = ranked_sequence(bases, ends, ranked, rank);
     let mut start = 0;
@@ -103,7 +101,7 @@ pub fn scan(
     bound: usize,
 ) -> Tally
     requires { ⌜ Searchable (now bases) (now ends) (now ranked) (now read) × Going bound 0 0 0 (now entries) ⌝ }
-    ensures { λ r. ⌜ Searched (lentSequences bases ends ranked) (old ranked) (old read) bound (places (length (old read)) (lentSequences bases ends ranked)) 0 0 (old entries) (r .comparisons) (r .seen) (new entries) ⌝ }
+    ensures { λ r. ⌜ AllSearched (lentSequences bases ends ranked) (old ranked) (old read) bound (old entries) r (new entries) ⌝ }
 {
     let mut tally = Tally {
         comparisons: 0,

@@ -1,11 +1,7 @@
 // One place of a read: compared, counted, and entered where the read matches.
-ghost use mathlib.Core.Path.{_≡_};
-ghost use mathlib.Core.List.{_∷_, []};
-ghost use lib.ListN.{length};
 ghost use Rattle.promises.specs.Slice.{old, new};
-ghost use Rattle.index.specs.Index.{rankedSequences, lentSequences};
-ghost use Rattle.places.specs.Place.{place, Fits};
-ghost use Rattle.scan.specs.Searched.{Searchable, Going, Searched};
+ghost use Rattle.index.specs.Index.{lentSequences};
+ghost use Rattle.scan.specs.Searched.{Searchable, FitsAt, Going, PlaceSearched};
 use crate::entries::write_entry;
 use index::ranked::ranked_sequence;
 use places::stands_at;
@@ -29,8 +25,9 @@ pub fn visit(
     strand: u64,
     tally: Tally,
 ) -> Tally
-    requires { ⌜ Searchable (now bases) (now ends) (now ranked) (now read) × (Fits (length (now read)) (rankedSequences (now bases) (now ends) (now ranked)) (place rank start strand) × Going bound 1 (tally .comparisons) (tally .seen) (now entries)) ⌝ }
-    ensures { λ r. ⌜ Searched (lentSequences bases ends ranked) (old ranked) (old read) bound (place rank start strand ∷ []) (tally .comparisons) (tally .seen) (old entries) (r .comparisons) (r .seen) (new entries) ⌝ }
+    requires { ⌜ Searchable (now bases) (now ends) (now ranked) (now read) ⌝ }
+    requires { ⌜ FitsAt (now bases) (now ends) (now ranked) (now read) rank start strand × Going bound 1 (tally .comparisons) (tally .seen) (now entries) ⌝ }
+    ensures { λ r. ⌜ PlaceSearched (lentSequences bases ends ranked) (old ranked) (old read) bound rank start strand tally (old entries) r (new entries) ⌝ }
 {
     let comparisons = tally.comparisons + 1;
     let seen = tally.seen;

@@ -42,8 +42,8 @@ add-i c = search needs
 has-room-requires : tie.Need-has-room-requires Inv-loop μ-loop
 has-room-requires c κs = search needs
 
-sub-t16 : tie.Need-sub-t16 Inv-loop μ-loop
-sub-t16 c = room-after _ _ _ _ (sym (c .before .before .has-room .ensures) ∙ c .before .if2 .taken)
+sub-t15 : tie.Need-sub-t15 Inv-loop μ-loop
+sub-t15 c = room-after (c .before .before .before .ranked-sequence .result .now) _ _ _ (sym (c .before .before .has-room .ensures) ∙ c .before .if2 .taken)
 
 returns : tie.Need-returns Inv-loop μ-loop
 returns c =
@@ -68,7 +68,7 @@ returns-2 : tie.Need-returns-2 Inv-loop μ-loop
 returns-2 c =
     let a = c .before .before .before .before .before .before .before .before .args in
     let p = lies (rankedSequences (a .bases .now) (a .ends .now) (a .ranked .now)) (a .n) (a .self .offset) in
-    record { moved = passing-end p _ _ _ _ _ (c .before .before .loop .inv) _ _ _ (c .if1 .left); strand-kept = refl; offset-kept = refl; end-kept = refl }
+    record { moved = passing-end p _ _ _ _ _ (c .before .before .loop .inv) _ (c .if1 .left); strand-kept = refl; offset-kept = refl; end-kept = refl }
 
 pub next-candidate-spec : {M : Type 1} → statement M
 next-candidate-spec =
@@ -82,7 +82,7 @@ next-candidate-spec =
     ranked-sequence-requires
     add-i
     has-room-requires
-    sub-t16
+    sub-t15
     returns
     loop-less
     loop-again
