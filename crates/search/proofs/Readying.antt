@@ -18,7 +18,7 @@ use Rattle.index.specs.Index.{indexOf, rankedSequences, maxStarts}
 use Rattle.index.proofs.Hits.{index-rising}
 use Rattle.index.proofs.Sequencing.{ranked-many}
 use Rattle.candidates.specs.Search.{offsetCount, Rarest}
-use Rattle.candidates.specs.Cursor.{CursorIn}
+use Rattle.candidates.specs.Cursor.{CursorIn, CursorsIn}
 use Rattle.candidates.specs.declared.rarest.SeedChoice.{SeedChoice}
 use Rattle.candidates.specs.declared.sides.Sides.{Sides}
 use Rattle.search.specs.Steps.{IndexSearchable, Spans}
@@ -61,8 +61,9 @@ module _ (q : ℕ) (bases ends ranked ks rs os read : List ℕ) (ready : IndexSe
             record { from = at .minus-side .from; upto = at .minus-side .upto; most = omega (arith, m .range-is .inside, i, ready-few); lookups = lookups-few 1 minus m },
           )
 
-      pub ready-cursors : CursorIn rs os (length ranked) (sides .plus .cursor .next) (sides .plus .cursor .end) × CursorIn rs os (length ranked) (sides .minus .cursor .next) (sides .minus .cursor .end)
-      ready-cursors = (
-        ready-cursor (sides .plus .cursor .next) (sides .plus .cursor .end) (omega (arith, at .plus-side .upto, at .plus-side .end-is)) (omega (arith, p .range-is .inside, at .plus-side .end-is)),
-        ready-cursor (sides .minus .cursor .next) (sides .minus .cursor .end) (omega (arith, at .minus-side .upto, at .minus-side .end-is)) (omega (arith, m .range-is .inside, at .minus-side .end-is)),
-      )
+      pub ready-cursors : CursorsIn rs os (length ranked) (sides .plus .cursor) (sides .minus .cursor)
+      ready-cursors =
+          record {
+            plus-in = ready-cursor (sides .plus .cursor .next) (sides .plus .cursor .end) (omega (arith, at .plus-side .upto, at .plus-side .end-is)) (omega (arith, p .range-is .inside, at .plus-side .end-is));
+            minus-in = ready-cursor (sides .minus .cursor .next) (sides .minus .cursor .end) (omega (arith, at .minus-side .upto, at .minus-side .end-is)) (omega (arith, m .range-is .inside, at .minus-side .end-is));
+          }

@@ -42,7 +42,7 @@ first-candidates-requires c κs =
     let g = c .cursor-over2 .ensures in
     let p = c .before .before .before .rarest-seed .ensures in
     let m = c .before .before .rarest-seed2 .ensures in
-    (z .pre .0 .searchable .lent, (ready-cursor _ _ _ _ _ _ _ _ (z .pre .0) (z .pre .1 .0) _ _ (omega (arith, f .next-is, f .end-is, p .range-is .ordered)) (omega (arith, f .end-is, p .range-is .inside)), ready-cursor _ _ _ _ _ _ _ _ (z .pre .0) (z .pre .1 .0) _ _ (omega (arith, g .next-is, g .end-is, m .range-is .ordered)) (omega (arith, g .end-is, m .range-is .inside))))
+    (z .pre .0 .searchable .lent, record { plus-in = ready-cursor _ _ _ _ _ _ _ _ (z .pre .0) (z .pre .1 .0) _ _ (omega (arith, f .next-is, f .end-is, p .range-is .ordered)) (omega (arith, f .end-is, p .range-is .inside)); minus-in = ready-cursor _ _ _ _ _ _ _ _ (z .pre .0) (z .pre .1 .0) _ _ (omega (arith, g .next-is, g .end-is, m .range-is .ordered)) (omega (arith, g .end-is, m .range-is .inside)) })
 
 loop-holds : tie.Need-loop-holds Inv-loop μ-loop
 loop-holds c =
