@@ -9,7 +9,7 @@ use Rattle.seeds.specs.Key.{keyOf}
 use Rattle.index.specs.Index.{indexOf, planRefusal, indexRefusal}
 use Rattle.places.specs.Place.{places, matches, groups}
 use Rattle.candidates.specs.Search.{comparable}
-use Rattle.search.specs.Work.{work}
+use Rattle.index_search.specs.Work.{work}
 use Rattle.indexed_mapper.specs.Map.{readRefusal, mapRefusal}
 use Rattle.indexed_mapper.specs.Board.{examples, AllHold}
 

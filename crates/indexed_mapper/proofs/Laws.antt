@@ -29,9 +29,9 @@ use Rattle.places.proofs.Swapping.{groups-turned}
 use Rattle.candidates.proofs.Candidates.{comparable-fewer}
 use Rattle.scan.specs.Entries.{entriesOf, entryCount, cleared}
 use Rattle.scan.proofs.Going.{length-entries}
-use Rattle.search.specs.Work.{work, scanWork, Way, byIndex, plain, workBy}
+use Rattle.index_search.specs.Work.{work, scanWork, Way, byIndex, plain, workBy}
 use Rattle.search.specs.Answer.{Row, answerOf, stateOf, listed, mappedRow, entriesAfter, roomRefusal, readEntries, SearchAnswered}
-use Rattle.search.specs.declared.answer.MappingWork.{MappingWork}
+use Rattle.index_search.specs.declared.work.MappingWork.{MappingWork}
 use Rattle.search.specs.declared.answer.MapAnswer.{MapAnswer}
 use Rattle.indexed_mapper.specs.Map.{readRefusal, rankedRefusal, mapRefusal, suppliedPlaces, MapsTo}
 use Rattle.indexed_mapper.specs.Match.{Match, Lists}

@@ -34,10 +34,10 @@ use Rattle.bases.specs.Read.{folded}
 use Rattle.places.specs.Place.{Place, maxRead, groups}
 use Rattle.scan.specs.Entries.{entryCount}
 use Rattle.search.specs.Bounds.{lengthRight, limitRight}
-use Rattle.search.specs.Work.{byIndex}
+use Rattle.index_search.specs.Work.{byIndex}
 use Rattle.search.specs.Answer.{roomRefusal, SearchAnswered}
-use Rattle.search.specs.Steps.{IndexSearchable, Mappable}
-use Rattle.search.specs.declared.answer.MappingWork.{MappingWork}
+use Rattle.index_search.specs.Steps.{IndexSearchable, Mappable}
+use Rattle.index_search.specs.declared.work.MappingWork.{MappingWork}
 use Rattle.search.specs.declared.answer.MapAnswer.{MapAnswer}
 use Rattle.search.specs.declared.answer.MapAnswer.the-variants as answers
 use Rattle.indexed_mapper.specs.Map.{readRefusal, rankedRefusal, mapRefusal, suppliedPlaces, RankedAnswered, ReadMapped, IndexMapped, MapsTo}

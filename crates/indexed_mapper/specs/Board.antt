@@ -12,9 +12,9 @@ use Rattle.columns.specs.Posting.{Posting, posting}
 use Rattle.seeds.specs.Seeds.{keysOf, ranksOf, positionsOf}
 use Rattle.index.specs.Index.{index, mappedSequences}
 use Rattle.places.specs.Place.{Place, place, groups}
-use Rattle.search.specs.Work.{workOf}
+use Rattle.index_search.specs.Work.{workOf}
 use Rattle.search.specs.Answer.{Row, row, listed}
-use Rattle.search.specs.declared.answer.MappingWork.{MappingWork}
+use Rattle.index_search.specs.declared.work.MappingWork.{MappingWork}
 use Rattle.indexed_mapper.specs.Map.{mapAnswer}
 
 pub data Example : Type 0 where

@@ -9,7 +9,7 @@ use Rattle.index.specs.Index.{mappedSequences, indexOf, columnsOf, indexRefusal
 use Rattle.places.specs.Place.{groups}
 use Rattle.scan.specs.Entries.{entryCount}
 use Rattle.search.specs.Bounds.{lengthRight, limitRight}
-use Rattle.search.specs.Work.{work}
+use Rattle.index_search.specs.Work.{work}
 use Rattle.search.specs.Answer.{Row, roomRefusal, readAnswer, readEntries, Leaves, Answered}
 use Rattle.search.specs.declared.answer.MapAnswer.{MapAnswer}
 

@@ -4,7 +4,7 @@ ghost use Rattle.promises.specs.Slice.{old, new};
 ghost use Rattle.catalogue.specs.Catalogue.{lentCatalogue};
 ghost use Rattle.seeds.specs.Key.{SeedLength};
 ghost use Rattle.index.specs.Index.{Lent, lentSequences};
-ghost use Rattle.search.specs.Steps.{Mappable};
+ghost use Rattle.index_search.specs.Steps.{Mappable};
 ghost use Rattle.indexed_mapper.specs.Map.{readRefusal, ReadMapped, IndexMapped, MapsTo};
 use catalogue::bounds::proper_sequence;
 use catalogue::ranks::Ranking;

@@ -22,7 +22,7 @@ use Rattle.postings.specs.Answers.{PlanRanked}
 use Rattle.postings.proofs.Planning.{no-refusal, ranked-mapped, not-zero, test-refused}
 use Rattle.places.specs.Place.{groups}
 use Rattle.scan.specs.Entries.{entryCount}
-use Rattle.search.specs.Work.{work}
+use Rattle.index_search.specs.Work.{work}
 use Rattle.search.specs.Bounds.{limitRight}
 use Rattle.search.specs.Answer.{readAnswer, readEntries}
 use Rattle.indexed_mapper.specs.Map.{rankedRefusal, mapRefusal, mapAnswer, mapEntries, suppliedPlaces}

@@ -21,7 +21,7 @@ use Rattle.seeds.proofs.Storing.{length-placed, placed-placed}
 use Rattle.places.specs.Place.{Place, groups}
 use Rattle.scan.specs.Entries.{entriesOf, entryCount, cleared}
 use Rattle.scan.proofs.Going.{length-entries}
-use Rattle.search.specs.Work.{byIndex}
+use Rattle.index_search.specs.Work.{byIndex}
 use Rattle.search.specs.Answer.{Row, answerOf, roomRefusal, PartSearched}
 use Rattle.search.specs.declared.answer.MapAnswer.{MapAnswer}
 use Rattle.search.specs.declared.answer.MapAnswer.the-variants as answers

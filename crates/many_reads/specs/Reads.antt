@@ -13,9 +13,9 @@ use Rattle.index.specs.Index.{indexOf, columnsOf, indexRefusal}
 use Rattle.places.specs.Place.{groups}
 use Rattle.scan.specs.Entries.{entryCount}
 use Rattle.search.specs.Bounds.{limitRight}
-use Rattle.search.specs.Work.{work}
+use Rattle.index_search.specs.Work.{work}
 use Rattle.search.specs.Answer.{Row, answerOf, readAnswer, readEntries}
-use Rattle.search.specs.declared.answer.MappingWork.{MappingWork}
+use Rattle.index_search.specs.declared.work.MappingWork.{MappingWork}
 use Rattle.search.specs.declared.answer.MapAnswer.{MapAnswer}
 use Rattle.indexed_mapper.specs.Map.{rankedRefusal, mapAnswer, mapEntries}
 

@@ -13,7 +13,7 @@ ghost use Rattle.seeds.specs.Seeds.{placed};
 ghost use Rattle.seeds.specs.Key.{SeedLength};
 ghost use Rattle.index.specs.Index.{rankedSequences, Lent, lentSequences};
 ghost use Rattle.search.specs.Answer.{answerOf};
-ghost use Rattle.search.specs.Steps.{Mappable};
+ghost use Rattle.index_search.specs.Steps.{Mappable};
 ghost use Rattle.many_reads.specs.Reads.{rowNumbers, listRefusal, ShareMapped, RankedMapped, RankedReads, MapsReads};
 use catalogue::bounds::ends_within;
 use catalogue::ranks::Ranking;

@@ -23,10 +23,10 @@ use Rattle.candidates.proofs.Candidates.{comparable-groups}
 use Rattle.scan.specs.Entries.{entriesOf, entryCount, cleared}
 use Rattle.scan.specs.Searched.{Searched}
 use Rattle.scan.proofs.Going.{length-entries}
-use Rattle.search.specs.Work.{workOf, work, scanWork, Way, byIndex, plain, workBy}
-use Rattle.search.specs.Answer.{stateNumber, answerOf, row, stateOf, roomRefusal, Answered, SearchAnswered}
-use Rattle.search.specs.Steps.{Found, Concluded}
-use Rattle.search.specs.declared.answer.MappingWork.{MappingWork}
+use Rattle.index_search.specs.Work.{workOf, work, scanWork, Way, byIndex, plain, workBy}
+use Rattle.search.specs.Answer.{stateNumber, answerOf, row, stateOf, roomRefusal, Answered, SearchAnswered, Concluded}
+use Rattle.index_search.specs.Steps.{Found}
+use Rattle.index_search.specs.declared.work.MappingWork.{MappingWork}
 use Rattle.search.specs.declared.answer.MapAnswer.{MapAnswer}
 use Rattle.search.specs.declared.answer.MapAnswer.the-variants as answers
 use Rattle.search.specs.declared.answer.ReadState.{ReadState}

@@ -1,7 +1,2 @@
-pub mod Seeking
-pub mod Siding
-pub mod Merging
-pub mod Finding
-pub mod Readying
 pub mod Concluding
 pub mod Parts

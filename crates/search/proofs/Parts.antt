@@ -17,7 +17,7 @@ use Rattle.seeds.proofs.Storing.{length-placed}
 use Rattle.places.specs.Place.{Place, groups}
 use Rattle.scan.specs.Entries.{entriesOf, entryCount, cleared}
 use Rattle.scan.proofs.Going.{length-entries}
-use Rattle.search.specs.Work.{Way}
+use Rattle.index_search.specs.Work.{Way}
 use Rattle.search.specs.Answer.{entriesAfter, listed, roomRefusal, readEntries, SearchAnswered, PartSearched}
 use Rattle.search.specs.declared.answer.MapAnswer.{MapAnswer}
 use Rattle.search.proofs.Concluding.{length-cleared}

@@ -10,10 +10,10 @@ use Rattle.promises.specs.Refusal.{unless, Outcome, refused, accepted, outcome}
 use Rattle.seeds.specs.Seeds.{placed}
 use Rattle.places.specs.Place.{Place, groups}
 use Rattle.scan.specs.Entries.{entriesOf, entryCount, cleared}
-use Rattle.search.specs.Work.{Way, workBy}
+use Rattle.index_search.specs.Work.{Way, workBy}
 use Rattle.search.specs.declared.answer.ReadState.{ReadState}
 use Rattle.search.specs.declared.answer.ReadState.the-variants as states
-use Rattle.search.specs.declared.answer.MappingWork.{MappingWork}
+use Rattle.index_search.specs.declared.work.MappingWork.{MappingWork}
 use Rattle.search.specs.declared.answer.MapAnswer.{MapAnswer}
 use Rattle.search.specs.declared.answer.MapAnswer.the-variants as answers
 
@@ -98,3 +98,9 @@ SearchAnswered way ss ranked read limit r buffer buffer′ = Leaves (searchAnswe
 pub record PartSearched (way : Way) (ss : List (List ℕ)) (ranked read : List ℕ) (limit from width : ℕ) (r : MapAnswer) (buffer buffer′ : List ℕ) : Type 0 where
   pub answer : answerOf r ≡ searchAnswer way ss read limit (entryCount (window buffer from width))
   pub part : buffer′ ≡ placed from (searchEntries ss ranked read limit (window buffer from width)) buffer
+
+-- the answer by the matches seen under a bound, and the entries set to zero where there are more
+pub record Concluded (limit bound : ℕ) (w : MappingWork) (r : MapAnswer) (buffer buffer′ : List ℕ) : Type 0 where
+  pub answer :
+      answerOf r ≡ cond (ltb bound (w .seen)) (cond (ltb (entryCount buffer) limit) (refused 10) (accepted (row 2 0 w))) (accepted (row (stateOf (w .seen)) (w .seen) w))
+  pub entries : buffer′ ≡ cond (ltb bound (w .seen)) (cleared buffer) buffer

@@ -1,4 +1,2 @@
 pub mod Bounds
-pub mod Work
 pub mod Answer
-pub mod Steps

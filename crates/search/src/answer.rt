@@ -1,8 +1,7 @@
 // What a search answers.
 ghost use mathlib.Core.Path.{_≡_};
-ghost use Rattle.search.specs.Work.{workOf};
 ghost use Rattle.search.specs.Answer.{stateNumber, stateOf};
-use scan::visit::Tally;
+use index_search::work::MappingWork;
 
 pub enum ReadState {
     NotRequested,
@@ -13,33 +12,11 @@ pub enum ReadState {
     Multiple,
 }
 
-// Lookups, postings of the chosen seeds, postings examined, full comparisons, and matches seen.
-pub struct MappingWork {
-    pub lookups: u64,
-    pub hits: u64,
-    pub examined: u64,
-    pub comparisons: u64,
-    pub seen: u64,
-}
-
 // A mapped read: its state, the number of its groups that are listed, and the work of the search.
 pub struct Mapping {
     pub state: ReadState,
     pub groups: usize,
     pub work: MappingWork,
-}
-
-// The work of a search: what was looked up, and what comparing counted.
-pub fn work_of(lookups: u64, hits: u64, examined: u64, tally: Tally) -> MappingWork
-    ensures { λ r. ⌜ r ≡ workOf lookups hits examined tally ⌝ }
-{
-    MappingWork {
-        lookups,
-        hits,
-        examined,
-        comparisons: tally.comparisons,
-        seen: tally.seen as u64,
-    }
 }
 
 pub enum MapAnswer {

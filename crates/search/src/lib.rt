@@ -5,22 +5,21 @@ ghost use lib.ListN.{length};
 ghost use Rattle.promises.specs.Slice.{old, new};
 ghost use Rattle.index.specs.Index.{lentSequences};
 ghost use Rattle.scan.specs.Searched.{Searchable};
-ghost use Rattle.search.specs.Work.{byIndex, plain};
-ghost use Rattle.search.specs.Answer.{SearchAnswered, PartSearched};
-ghost use Rattle.search.specs.Steps.{IndexSearchable, Concluded};
+ghost use Rattle.index_search.specs.Work.{byIndex, plain};
+ghost use Rattle.search.specs.Answer.{SearchAnswered, PartSearched, Concluded};
+ghost use Rattle.index_search.specs.Steps.{IndexSearchable};
 use answer::MapAnswer;
 use answer::Mapping;
-use answer::MappingWork;
 use answer::ReadState;
 use answer::state_of;
-use answer::work_of;
-use by_index::search_index;
+use index_search::by_index::search_index;
+use index_search::work::MappingWork;
+use index_search::work::work_of;
 use scan::entries::clear_entries;
 use scan::every_start::scan;
 
 pub mod answer;
 pub mod bounds;
-pub mod by_index;
 
 // The lesser of the limit and the number of entries: a search need not go on past either.
 fn bound_of(limit: u64, entries: usize) -> usize

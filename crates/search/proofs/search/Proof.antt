@@ -2,7 +2,7 @@
 -- Assumes nothing.
 use native.Mathlib.Omega.{arith}
 use Rattle.index.specs.Index.{rankedSequences}
-use Rattle.search.specs.Work.{byIndex}
+use Rattle.index_search.specs.Work.{byIndex}
 use Rattle.search.proofs.Concluding.{search-answered, work-bounded, work-short}
 use borrow.Author.Needs.{needs}
 use Rattle.search.proofs.search.Statement.{statement}

@@ -1,7 +1,7 @@
 -- `search::search_every_start` meets its contract: a search of every place under the lesser of limit and entries.
 -- Assumes nothing.
 use Rattle.index.specs.Index.{rankedSequences}
-use Rattle.search.specs.Work.{plain}
+use Rattle.index_search.specs.Work.{plain}
 use Rattle.search.proofs.Concluding.{search-answered, scan-bounded, scan-found}
 use borrow.Author.Needs.{needs}
 use Rattle.search.proofs.search_every_start.Statement.{statement}

@@ -3,7 +3,7 @@
 use Prim.Native.Nat.{_+_, _-_}
 use native.Mathlib.Omega.{arith}
 use Rattle.index.specs.Index.{rankedSequences}
-use Rattle.search.specs.Work.{byIndex}
+use Rattle.index_search.specs.Work.{byIndex}
 use Rattle.search.proofs.Parts.{part-searched}
 use borrow.Author.Needs.{needs}
 use Rattle.search.proofs.search_part.Statement.{statement}

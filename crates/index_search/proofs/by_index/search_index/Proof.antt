@@ -5,11 +5,11 @@ use mathlib.Core.Path.{sym, _∙_}
 use native.Mathlib.Omega.{arith}
 use Prim.Native.Nat.{_-_, _*_}
 use Rattle.index.specs.Index.{rankedSequences, maxStarts}
-use Rattle.search.proofs.Merging.{Both, both-start, both-fits, both-going, both-more, both-fewer, both-counted, both-length}
-use Rattle.search.proofs.Finding.{found-all, found-stopped}
-use Rattle.search.proofs.Readying.{ready-rising, ready-seed, ready-cursor, ready-chosen, ready-spans, ready-cursors}
-use Rattle.search.proofs.by_index.search_index.Statement.{statement}
-use Rattle.search.proofs.by_index.search_index.Tie as tie
+use Rattle.index_search.proofs.Merging.{Both, both-start, both-fits, both-going, both-more, both-fewer, both-counted, both-length}
+use Rattle.index_search.proofs.Finding.{found-all, found-stopped}
+use Rattle.index_search.proofs.Readying.{ready-rising, ready-seed, ready-cursor, ready-chosen, ready-spans, ready-cursors}
+use Rattle.index_search.proofs.by_index.search_index.Statement.{statement}
+use Rattle.index_search.proofs.by_index.search_index.Tie as tie
 
 abbrev Inv-loop : tie.InvT-loop
 Inv-loop entries₀ bases ends ranked keys ranks positions q read bound plus minus sides₀ tally₀ entries sides tally =

@@ -1,11 +1,8 @@
--- What the steps of `map` are lent, and what they leave behind.
+-- What the steps of a search by index are lent, and what they leave behind.
 use mathlib.Core.Path.{_≡_}
-use mathlib.Core.Bool.{true, cond}
 use mathlib.Core.List.{List}
 use Prim.Native.Nat.{ℕ, _+_, _-_, _≤_}
 use lib.ListN.{length, take}
-use lib.Dec.{ltb}
-use Rattle.promises.specs.Refusal.{Outcome, refused, accepted}
 use Rattle.seeds.specs.Seeds.{placed}
 use Rattle.seeds.specs.Key.{SeedLength}
 use Rattle.index.specs.Index.{rankedSequences, Lent, Indexed}
@@ -15,12 +12,10 @@ use Rattle.candidates.specs.declared.cursor.OrientationCursor.{OrientationCurso
 use Rattle.candidates.specs.declared.cursor.Candidate.{Candidate}
 use Rattle.candidates.specs.declared.sides.Sides.{Sides}
 use Rattle.scan.specs.declared.visit.Tally.{Tally}
-use Rattle.scan.specs.Entries.{entriesOf, entryCount, cleared}
+use Rattle.scan.specs.Entries.{entriesOf}
 use Rattle.scan.specs.Searched.{maxCount, Searchable}
-use Rattle.search.specs.Work.{Way, workBy, workOf}
-use Rattle.search.specs.declared.answer.MappingWork.{MappingWork}
-use Rattle.search.specs.declared.answer.MapAnswer.{MapAnswer}
-use Rattle.search.specs.Answer.{answerOf, row, stateOf}
+use Rattle.index_search.specs.Work.{Way, workBy, workOf}
+use Rattle.index_search.specs.declared.work.MappingWork.{MappingWork}
 
 -- the entries of the groups up to a bound were written, with the work of a search in either way
 pub record Found (way : Way) (ss : List (List ℕ)) (ranked read : List ℕ) (bound : ℕ) (w : MappingWork) (buffer buffer′ : List ℕ) : Type 0 where
@@ -45,12 +40,6 @@ pub record Spans (choice : SeedChoice) (side : Candidate) : Type 0 where
   pub upto : side .cursor .next ≤ choice .end
   pub most : choice .end ≤ maxCount
   pub lookups : choice .lookups ≤ 65536
-
--- the answer by the matches seen under a bound, and the entries set to zero where there are more
-pub record Concluded (limit bound : ℕ) (w : MappingWork) (r : MapAnswer) (buffer buffer′ : List ℕ) : Type 0 where
-  pub answer :
-      answerOf r ≡ cond (ltb bound (w .seen)) (cond (ltb (entryCount buffer) limit) (refused 10) (accepted (row 2 0 w))) (accepted (row (stateOf (w .seen)) (w .seen) w))
-  pub entries : buffer′ ≡ cond (ltb bound (w .seen)) (cleared buffer) buffer
 
 -- what mapping reads is lent: sequences, and columns that are their index
 pub record Mappable (q : ℕ) (bases ends ranked ks rs os : List ℕ) : Type 0 where

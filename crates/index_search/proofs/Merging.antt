@@ -29,10 +29,10 @@ use Rattle.candidates.specs.declared.sides.Sides.{Sides}
 use Rattle.candidates.proofs.Candidates.{candidates-ascending, comparable-∈}
 use Rattle.scan.specs.Searched.{maxCount, Going, Searched}
 use Rattle.scan.proofs.Going.{Progress, searched-bounded, progress-none, progress-length, progress-going, progress-more, progress-stop}
-use Rattle.search.specs.Work.{onStrand}
-use Rattle.search.specs.Steps.{Front}
-use Rattle.search.proofs.Seeking.{chosen-offset, chosen-hits, in-index, comparable-few}
-use Rattle.search.proofs.Siding.{candidatesIn, Side, side-start, side-moved, side-first, side-none}
+use Rattle.index_search.specs.Work.{onStrand}
+use Rattle.index_search.specs.Steps.{Front}
+use Rattle.index_search.proofs.Seeking.{chosen-offset, chosen-hits, in-index, comparable-few}
+use Rattle.index_search.proofs.Siding.{candidatesIn, Side, side-start, side-moved, side-first, side-none}
 
 -- the chosen seeds of a read that is not shorter than a seed, and room for the entries of its matches
 pub record Chosen (q : ℕ) (ss : List (List ℕ)) (read ks rs os : List ℕ) (plus minus : SeedChoice) (bound : ℕ) (buffer : List ℕ) : Type 0 where

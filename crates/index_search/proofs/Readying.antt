@@ -21,9 +21,9 @@ use Rattle.candidates.specs.Search.{offsetCount, Rarest}
 use Rattle.candidates.specs.Cursor.{CursorIn, CursorsIn}
 use Rattle.candidates.specs.declared.rarest.SeedChoice.{SeedChoice}
 use Rattle.candidates.specs.declared.sides.Sides.{Sides}
-use Rattle.search.specs.Steps.{IndexSearchable, Spans}
-use Rattle.search.proofs.Seeking.{cursor-in, in-index, index-few}
-use Rattle.search.proofs.Merging.{Chosen, Both}
+use Rattle.index_search.specs.Steps.{IndexSearchable, Spans}
+use Rattle.index_search.proofs.Seeking.{cursor-in, in-index, index-few}
+use Rattle.index_search.proofs.Merging.{Chosen, Both}
 
 length-numbers : (k n : ℕ) → length (numbers k n) ≡ n
 length-numbers k zero = refl

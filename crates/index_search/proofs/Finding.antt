@@ -30,12 +30,12 @@ use Rattle.scan.specs.Entries.{entriesOf}
 use Rattle.scan.specs.Searched.{looked, Searched}
 use Rattle.scan.specs.declared.visit.Tally.{Tally}
 use Rattle.scan.proofs.Going.{searched-whole, searched-seen}
-use Rattle.search.specs.Work.{onStrand, passed, tallied, workOf, work, byIndex}
-use Rattle.search.specs.Steps.{Found, indexWork}
-use Rattle.search.specs.declared.answer.MappingWork.{MappingWork}
-use Rattle.search.proofs.Seeking.{chosen-offset, chosen-lookups, chosen-hits, in-index}
-use Rattle.search.proofs.Siding.{side-examined}
-use Rattle.search.proofs.Merging.{Chosen, SideOf, Both, both-stop, next-whole, behind, plus-none, minus-none}
+use Rattle.index_search.specs.Work.{onStrand, passed, tallied, workOf, work, byIndex}
+use Rattle.index_search.specs.Steps.{Found, indexWork}
+use Rattle.index_search.specs.declared.work.MappingWork.{MappingWork}
+use Rattle.index_search.proofs.Seeking.{chosen-offset, chosen-lookups, chosen-hits, in-index}
+use Rattle.index_search.proofs.Siding.{side-examined}
+use Rattle.index_search.proofs.Merging.{Chosen, SideOf, Both, both-stop, next-whole, behind, plus-none, minus-none}
 
 -- equal counts make equal work
 work-eq : {l l′ h h′ e e′ : ℕ} {t t′ : Tally} → l ≡ l′ → h ≡ h′ → e ≡ e′ → t .comparisons ≡ t′ .comparisons → t .seen ≡ t′ .seen → workOf l h e t ≡ workOf l′ h′ e′ t′

@@ -9,7 +9,7 @@ use Rattle.lists.specs.Limit.{stopped}
 use Rattle.places.specs.Place.{Place, places, matches}
 use Rattle.candidates.specs.Search.{lies, seedHits, seedCount, lookupsOn, chosen, everyStart, compared}
 use Rattle.scan.specs.declared.visit.Tally.{Tally}
-use Rattle.search.specs.declared.answer.MappingWork.{MappingWork}
+use Rattle.index_search.specs.declared.work.MappingWork.{MappingWork}
 
 -- what comparing a list of places counts: the full comparisons, and the matches seen
 abbrev pub tallied : (Place → Bool) → List Place → Tally

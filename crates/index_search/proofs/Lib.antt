@@ -1,0 +1,5 @@
+pub mod Seeking
+pub mod Siding
+pub mod Merging
+pub mod Finding
+pub mod Readying
