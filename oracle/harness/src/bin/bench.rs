@@ -10,11 +10,13 @@ use std::env;
 use std::hint::black_box;
 use std::process::ExitCode;
 use std::time::Instant;
-use veritasm::indexed_mapper::{IndexedExactMapper, DEFAULT_SEED_LENGTH as Q};
+use veritasm::indexed_mapper::{IndexedExactMapper, DEFAULT_SEED_LENGTH};
 
 struct Set {
     name: &'static str,
     c: Catalogue,
+    /// The seed length.
+    q: usize,
     reads: Vec<Vec<u8>>,
     limit: u64,
     /// Entries lent for each read.
@@ -38,7 +40,7 @@ fn random(rng: &mut Rng, name: &'static str, targets: usize, length: usize, read
             }
         })
         .collect();
-    Set { name, c, reads, limit: MOST_LIMIT, share: 8 }
+    Set { name, c, q: DEFAULT_SEED_LENGTH, reads, limit: MOST_LIMIT, share: 8 }
 }
 
 /// Homopolymers, tandem repeats and broken runs. A read of one letter has candidates everywhere: in the homopolymers
@@ -78,7 +80,31 @@ fn hostile(rng: &mut Rng) -> Set {
             }
         });
     }
-    Set { name: "hostile", c, reads, limit: 1000, share: 1000 }
+    Set { name: "hostile", c, q: DEFAULT_SEED_LENGTH, reads, limit: 1000, share: 1000 }
+}
+
+/// Long runs of A with a few other bases, and the longest seed: keys crowd together, so that halving their range parts few of them.
+fn crowded(rng: &mut Rng) -> Set {
+    let (targets, length) = (1000, 5000);
+    let mut c = Catalogue::default();
+    for k in 0..targets {
+        let bases: Vec<u8> = (0..length)
+            .map(|_| if rng.below(12) == 0 { *rng.pick(b"CGT") } else { b'A' })
+            .collect();
+        c.push(format!("unitig_{k:06}").as_bytes(), &bases, 0);
+    }
+    let reads = (0..20_000)
+        .map(|i| {
+            let at = rng.below(targets) * length + rng.below(length - 99);
+            let read = &c.bases[at..at + 100];
+            if i % 2 == 0 {
+                read.to_vec()
+            } else {
+                turned(read)
+            }
+        })
+        .collect();
+    Set { name: "crowded", c, q: 31, reads, limit: 1000, share: 8 }
 }
 
 fn median(times: &mut [f64]) -> f64 {
@@ -100,11 +126,12 @@ fn print(what: &str, ours: &mut [f64], theirs: &mut [f64]) {
 
 /// Three times both, one after the other; whether all answers were equal.
 fn run(set: &Set) -> bool {
-    let Set { name, c, reads, limit, share } = set;
+    let Set { name, c, q, reads, limit, share } = set;
+    let q = *q;
     let n = c.marks.len();
-    println!("{name}: {n} targets, {} bases, {} reads, seed {Q}, limit {limit}", c.bases.len(), reads.len());
+    println!("{name}: {n} targets, {} bases, {} reads, seed {q}, limit {limit}", c.bases.len(), reads.len());
     let unitigs = theirs::unitigs(c).expect("a right catalogue");
-    let expected = rules::index(c, Q);
+    let expected = rules::index(c, q);
     let postings = expected[0].len();
     let mut columns: Columns = [0; 3].map(|_| vec![7; postings]);
     let (mut a, mut b) = (Vec::new(), Vec::new());
@@ -113,8 +140,8 @@ fn run(set: &Set) -> bool {
         columns.iter_mut().for_each(|c| c.fill(7));
         let mut answer = [0; 2];
         let [keys, ranks, positions] = &mut columns;
-        timed(&mut a, || ours::build(&mut answer, [keys, ranks, positions], c, Q));
-        let mapper = timed(&mut b, || IndexedExactMapper::new(&unitigs, theirs::config(Q))).expect("the Rust builds");
+        timed(&mut a, || ours::build(&mut answer, [keys, ranks, positions], c, q));
+        let mapper = timed(&mut b, || IndexedExactMapper::new(&unitigs, theirs::config(q))).expect("the Rust builds");
         same &= answer == [0, postings as u64] && columns == expected && mapper.posting_count() == postings;
     }
     drop(expected);
@@ -123,7 +150,7 @@ fn run(set: &Set) -> bool {
         println!("  the indexes differ");
     }
 
-    let mapper = Mapper::new(&unitigs, Q).expect("the Rust builds");
+    let mapper = Mapper::new(&unitigs, q).expect("the Rust builds");
     let bytes = reads.concat();
     let ends: Vec<usize> = reads
         .iter()
@@ -136,7 +163,7 @@ fn run(set: &Set) -> bool {
     let mut entries = vec![7; 4 * share * reads.len()];
     let (mut a, mut b) = (Vec::new(), Vec::new());
     for _ in 0..3 {
-        let refusal = timed(&mut a, || ours::map_reads(&mut rows, &mut entries, &columns, c, Q, &bytes, &ends, *limit));
+        let refusal = timed(&mut a, || ours::map_reads(&mut rows, &mut entries, &columns, c, q, &bytes, &ends, *limit));
         same &= refusal == 0;
         timed(&mut b, || reads.iter().for_each(|read| drop(black_box(mapper.inner.map(read, *limit)))));
     }
@@ -178,6 +205,9 @@ fn main() -> ExitCode {
     }
     if wanted("hostile") {
         same &= run(&hostile(&mut rng));
+    }
+    if wanted("crowded") {
+        same &= run(&crowded(&mut rng));
     }
     println!("{}", if same { "all answers equal" } else { "ANSWERS DIFFER" });
     ExitCode::from(u8::from(!same))
