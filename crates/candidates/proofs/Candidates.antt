@@ -25,7 +25,7 @@ use Rattle.lists.proofs.Sort.{merge-ascending, ∈-merge, merge-∈}
 use Rattle.lists.proofs.Same.{same-true}
 use Rattle.lists.proofs.Part.{part-filter, part-stopped}
 use Rattle.lists.proofs.Triple.{Before, before-test, test-before}
-use Rattle.names.specs.Ordered.{numbers}
+use Rattle.lists.specs.Numbers.{numbers}
 use Rattle.names.proofs.Merging.{numbers-∈}
 use Rattle.bases.specs.Base.{upperOf}
 use Rattle.bases.specs.Read.{folded, oriented}

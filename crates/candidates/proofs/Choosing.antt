@@ -12,7 +12,7 @@ use Rattle.lists.specs.Limit.{goOn, stopped}
 use Rattle.lists.specs.Cut.{window}
 use Rattle.lists.proofs.Cases.{by-test}
 use Rattle.lists.proofs.Filter.{filter-range}
-use Rattle.names.specs.Ordered.{numbers}
+use Rattle.lists.specs.Numbers.{numbers}
 use Rattle.seeds.specs.Key.{keyOf}
 use Rattle.seeds.specs.Window.{starts}
 use Rattle.lookup.specs.Range.{RangeOf}

@@ -11,7 +11,7 @@ use borrow.Author.Tests.{ltb-true, ltb-false}
 use Rattle.lists.specs.Limit.{goOn, stopped}
 use Rattle.lists.specs.Member.{_∈_}
 use Rattle.lists.proofs.Cases.{by-test}
-use Rattle.names.specs.Ordered.{numbers}
+use Rattle.lists.specs.Numbers.{numbers}
 use Rattle.candidates.specs.Search.{tried, fewest, rarest}
 
 -- numbers from `low` on that do not fall

@@ -9,7 +9,7 @@ use Rattle.lists.specs.Filter.{filter}
 use Rattle.lists.specs.Sort.{merge}
 use Rattle.lists.specs.Limit.{stopped}
 use Rattle.lists.specs.Cut.{window}
-use Rattle.names.specs.Ordered.{numbers}
+use Rattle.lists.specs.Numbers.{numbers}
 use Rattle.bases.specs.Read.{oriented}
 use Rattle.columns.specs.Posting.{Posting}
 use Rattle.seeds.specs.Key.{keyOf}

@@ -20,7 +20,8 @@ use Rattle.lists.proofs.Filter.{∈-filter, filter-∈}
 use Rattle.lists.proofs.Order.{order-by, ascending-filter, ascending-map, ascending-unique, apart-filter}
 use Rattle.lists.proofs.Sort.{sort-ascending, ∈-sort, sort-∈}
 use Rattle.names.specs.Name.{nameBefore, distinctNames}
-use Rattle.names.specs.Ordered.{numbers, placeBefore}
+use Rattle.lists.specs.Numbers.{numbers}
+use Rattle.names.specs.Ordered.{placeBefore}
 use Rattle.catalogue.specs.Catalogue.{Catalogue, Target, targetsFrom, targets, names, sequences, isMapped, byName, inBounds, mapped}
 use Rattle.catalogue.specs.Ranking.{linearAt, linearPlaces}
 use Rattle.lists.proofs.Cut.{length-cut}

@@ -10,7 +10,7 @@ use Rattle.lists.specs.Filter.{filter, every}
 use Rattle.lists.specs.Sort.{sort}
 use Rattle.lists.specs.Cut.{cut, endsWithin}
 use Rattle.promises.specs.Slice.{Slice, old}
-use Rattle.bases.specs.Base.{isCapital}
+use Rattle.bases.specs.Read.{capitals}
 use Rattle.promises.specs.Refusal.{unless, _orElse_}
 use Rattle.names.specs.Name.{nameBefore, distinctNames}
 
@@ -88,7 +88,7 @@ inBounds c = countsRight c && endsRight c && valuesRight c
 
 -- 3 where some target fails: it is not empty, and all its bases are capitals of ACGT
 abbrev pub properSequence : List ℕ → Bool
-properSequence s = ltb 0 (length s) && every isCapital s
+properSequence s = ltb 0 (length s) && capitals s
 
 -- the first of 2, 3 and 4 that holds, each over all targets; 4 is for two equal identifiers
 unfoldable pub catalogueRefusal : Catalogue → ℕ
@@ -111,3 +111,7 @@ byName t u = nameBefore (t .identifier) (u .identifier)
 -- the mapped targets by name: a target's rank is its place in this list, counted from 0
 unfoldable pub mapped : Catalogue → List Target
 mapped c = sort byName (filter isMapped (targets c))
+
+-- the supplied place of each rank
+abbrev pub suppliedPlaces : Catalogue → List ℕ
+suppliedPlaces c = map (λ (t : Target). t .place) (mapped c)

@@ -1,7 +1,7 @@
 -- What ranking a catalogue answers and leaves in its buffer.
 use mathlib.Core.Path.{_≡_}
 use mathlib.Core.Bool.{Bool, cond}
-use mathlib.Core.List.{List, map}
+use mathlib.Core.List.{List}
 use Prim.Native.Nat.{ℕ, _+_}
 use lib.ListN.{length, getD, take, set}
 use lib.Dec.{eqb}
@@ -9,9 +9,10 @@ use Rattle.lists.specs.Filter.{filter}
 use Rattle.lists.specs.Sort.{sort}
 use Rattle.promises.specs.Refusal.{unless, Outcome, refused, accepted, outcome}
 use Rattle.names.specs.Name.{distinctNames}
-use Rattle.names.specs.Ordered.{numbers, placeBefore}
+use Rattle.lists.specs.Numbers.{numbers}
+use Rattle.names.specs.Ordered.{placeBefore}
 use Rattle.names.specs.Lent.{NamesLent}
-use Rattle.catalogue.specs.Catalogue.{Catalogue, Target, catalogueRefusal, mapped}
+use Rattle.catalogue.specs.Catalogue.{Catalogue, catalogueRefusal, mapped, suppliedPlaces}
 use Rattle.catalogue.specs.declared.ranks.Ranking.{Ranking}
 use Rattle.catalogue.specs.declared.ranks.Ranking.the-variants.{Refused, Ranked}
 
@@ -57,7 +58,7 @@ pub record NamesRanked (names : List (List ℕ)) (marks : List ℕ) (r : Ranking
 -- where a catalogue is ranked, the first numbers of the buffer are the supplied places of its mapped targets, by rank;
 -- on a refusal the buffer is free, since it is the caller's scratch and nobody reads it then
 abbrev pub RanksIn : Catalogue → Ranking → List ℕ → Type 0
-RanksIn c r buffer = (k : ℕ) → r ≡ Ranked k → take k buffer ≡ map (λ (t : Target). t .place) (mapped c)
+RanksIn c r buffer = (k : ℕ) → r ≡ Ranked k → take k buffer ≡ suppliedPlaces c
 
 -- the catalogue's refusal, or the number of its mapped targets
 pub record RankedAs (c : Catalogue) (r : Ranking) (buffer : List ℕ) : Type 0 where

@@ -11,7 +11,7 @@ use Rattle.lists.specs.Same.{same}
 use Rattle.lists.specs.Cut.{cut, window, endsWithin}
 use Rattle.promises.specs.Slice.{Slice, old}
 use Rattle.promises.specs.Refusal.{unless, _orElse_}
-use Rattle.bases.specs.Base.{isCapital}
+use Rattle.bases.specs.Read.{capitals}
 use Rattle.catalogue.specs.Catalogue.{Catalogue, Target, Valid, catalogueRefusal, mapped, maxTargets, maxBases}
 use Rattle.columns.specs.Posting.{Posting, earlier, row}
 use Rattle.seeds.specs.Key.{keyOf, maxSeed}
@@ -77,7 +77,7 @@ pub record Lent (bases ends ranked : List ℕ) : Type 0 where
   pub total : endsWithin 0 maxBases ends ≡ true
   pub few : length ranked ≤ maxTargets
   pub places : every (λ p. ltb p (length ends)) ranked ≡ true
-  pub capitals : every (λ (s : List ℕ). every isCapital s) (rankedSequences bases ends ranked) ≡ true
+  pub capitals : every capitals (rankedSequences bases ends ranked) ≡ true
 
 -- no more starts than this in as many sequences of as many bases as a catalogue can have
 abbrev pub maxStarts : ℕ

@@ -9,7 +9,7 @@ use lib.Dec.{eqb}
 use Rattle.lists.proofs.Limit.{length-stopped}
 use Rattle.bases.specs.Read.{oriented}
 use Rattle.bases.proofs.Turning.{length-oriented}
-use Rattle.names.specs.Ordered.{numbers}
+use Rattle.lists.specs.Numbers.{numbers}
 use Rattle.seeds.specs.Key.{SeedIn}
 use Rattle.seeds.specs.Window.{starts}
 use Rattle.seeds.proofs.Keying.{seed-in}

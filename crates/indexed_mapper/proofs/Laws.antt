@@ -20,7 +20,7 @@ use Rattle.bases.specs.Base.{complementOf, isCapital}
 use Rattle.bases.specs.Read.{reverseComplement}
 use Rattle.bases.proofs.Bytes.{complement-twice}
 use Rattle.bases.proofs.Turning.{length-reverse-complement}
-use Rattle.catalogue.specs.Catalogue.{Catalogue, Valid}
+use Rattle.catalogue.specs.Catalogue.{Catalogue, Valid, suppliedPlaces}
 use Rattle.seeds.specs.Seeds.{placed}
 use Rattle.index.specs.Index.{mappedSequences, planRefusal, indexRefusal}
 use Rattle.postings.proofs.Planning.{plan-right}
@@ -33,7 +33,7 @@ use Rattle.index_search.specs.Work.{work, scanWork, Way, byIndex, plain, workBy
 use Rattle.search.specs.Answer.{Row, answerOf, stateOf, listed, mappedRow, entriesAfter, roomRefusal, readEntries, SearchAnswered}
 use Rattle.index_search.specs.declared.work.MappingWork.{MappingWork}
 use Rattle.search.specs.declared.answer.MapAnswer.{MapAnswer}
-use Rattle.indexed_mapper.specs.Map.{readRefusal, rankedRefusal, mapRefusal, suppliedPlaces, MapsTo}
+use Rattle.indexed_mapper.specs.Map.{readRefusal, rankedRefusal, mapRefusal, MapsTo}
 use Rattle.indexed_mapper.specs.Match.{Match, Lists}
 use Rattle.indexed_mapper.specs.Laws.{SearchesAgree, turnedGroups, TurnedAnswer}
 use Rattle.indexed_mapper.proofs.Mapping.{at-capitals}

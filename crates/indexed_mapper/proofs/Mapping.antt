@@ -21,7 +21,7 @@ use Rattle.bases.proofs.Bytes.{letter-capital}
 use Rattle.promises.specs.Refusal.{unless, _orElse_}
 use Rattle.promises.proofs.Refusing.{first-stands}
 use Rattle.names.specs.Name.{distinctNames}
-use Rattle.catalogue.specs.Catalogue.{Catalogue, Target, Valid, names, sequences, mapped, inBounds, properSequence, catalogueRefusal}
+use Rattle.catalogue.specs.Catalogue.{Catalogue, Target, Valid, names, sequences, mapped, inBounds, properSequence, catalogueRefusal, suppliedPlaces}
 use Rattle.catalogue.specs.declared.ranks.Ranking.{Ranking}
 use Rattle.catalogue.specs.declared.ranks.Ranking.the-variants.{Refused, Ranked}
 use Rattle.catalogue.proofs.Mapped.{mapped-∈, at-its-place}
@@ -40,7 +40,7 @@ use Rattle.index_search.specs.Steps.{IndexSearchable, Mappable}
 use Rattle.index_search.specs.declared.work.MappingWork.{MappingWork}
 use Rattle.search.specs.declared.answer.MapAnswer.{MapAnswer}
 use Rattle.search.specs.declared.answer.MapAnswer.the-variants as answers
-use Rattle.indexed_mapper.specs.Map.{readRefusal, rankedRefusal, mapRefusal, suppliedPlaces, RankedAnswered, ReadMapped, IndexMapped, MapsTo}
+use Rattle.indexed_mapper.specs.Map.{readRefusal, rankedRefusal, mapRefusal, RankedAnswered, ReadMapped, IndexMapped, MapsTo}
 
 -- ---- refusals of a read and a limit
 

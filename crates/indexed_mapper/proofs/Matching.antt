@@ -20,13 +20,12 @@ use Rattle.lists.proofs.Same.{same-true, true-same}
 use Rattle.names.specs.Name.{nameBefore}
 use Rattle.names.specs.Ordered.{placeBefore}
 use Rattle.names.proofs.NameLaws.{place-order}
-use Rattle.catalogue.specs.Catalogue.{Catalogue, Target, Valid, names, targets, isMapped, byName, mapped}
+use Rattle.catalogue.specs.Catalogue.{Catalogue, Target, Valid, names, targets, isMapped, byName, mapped, suppliedPlaces}
 use Rattle.catalogue.proofs.Mapped.{mapped-∈, ∈-mapped, mapped-ascending, named-by-place}
 use Rattle.index.specs.Index.{mappedSequences}
 use Rattle.places.specs.Place.{Place, place, triple, before, Fits, matches, groups}
 use Rattle.places.proofs.Placing.{groups-∈, ∈-groups, groups-ascending}
 use Rattle.scan.specs.Entries.{entryOf, entriesOf}
-use Rattle.indexed_mapper.specs.Map.{suppliedPlaces}
 use Rattle.indexed_mapper.specs.Match.{Match, placeOf, rankOf, byRank, matchEntries}
 
 -- in a list that ascends each number stands at one place

@@ -1,10 +1,10 @@
 -- What `map` answers, and what it leaves in the entries (REFERENCE.md, "Mapping").
 use mathlib.Core.Bool.{Bool}
-use mathlib.Core.List.{List, map}
+use mathlib.Core.List.{List}
 use Prim.Native.Nat.{ℕ}
 use lib.ListN.{length}
 use Rattle.promises.specs.Refusal.{unless, _orElse_, Outcome}
-use Rattle.catalogue.specs.Catalogue.{Catalogue, Target, properSequence, mapped}
+use Rattle.catalogue.specs.Catalogue.{Catalogue, properSequence, suppliedPlaces}
 use Rattle.index.specs.Index.{mappedSequences, indexOf, columnsOf, indexRefusal}
 use Rattle.places.specs.Place.{groups}
 use Rattle.scan.specs.Entries.{entryCount}
@@ -32,10 +32,6 @@ unfoldable pub mapRefusal : ℕ → Catalogue → List ℕ → List ℕ → List
 mapRefusal q c ks rs os read limit entries = indexRefusal q c ks rs os orElse rankedRefusal (mappedSequences c) read limit entries
 
 -- ---- map
-
--- the supplied place of each rank
-abbrev pub suppliedPlaces : Catalogue → List ℕ
-suppliedPlaces c = map (λ (t : Target). t .place) (mapped c)
 
 -- what `map` answers
 abbrev pub mapAnswer : ℕ → Catalogue → List ℕ → List ℕ → List ℕ → List ℕ → ℕ → ℕ → Outcome Row

@@ -11,11 +11,10 @@ use Rattle.lists.specs.Order.{Ascending}
 use Rattle.lists.specs.Triple.{Triple, lexicographic}
 use Rattle.lists.specs.Cut.{window}
 use Rattle.bases.specs.Read.{folded, oriented}
-use Rattle.catalogue.specs.Catalogue.{Catalogue, Target, targets, isMapped}
+use Rattle.catalogue.specs.Catalogue.{Catalogue, Target, targets, isMapped, suppliedPlaces}
 use Rattle.seeds.specs.Seeds.{placed}
 use Rattle.scan.specs.Entries.{entryOf, cleared}
 use Rattle.search.specs.Answer.{Row}
-use Rattle.indexed_mapper.specs.Map.{suppliedPlaces}
 
 -- the read matches at a start and on a strand of the linear target supplied at a place: it ends within the target, and the
 -- target's bases from the start on are the read's, in upper case and as it lies on the strand

@@ -6,3 +6,4 @@ pub mod Triple
 pub mod Limit
 pub mod Cut
 pub mod Same
+pub mod Numbers

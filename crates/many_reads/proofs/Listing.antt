@@ -14,7 +14,7 @@ use Rattle.lists.proofs.Cases.{by-test, and-true}
 use Rattle.lists.proofs.Cut.{length-cut}
 use Rattle.promises.specs.Refusal.{unless, _orElse_}
 use Rattle.promises.proofs.Refusing.{first-stands, none-first, passed}
-use Rattle.catalogue.specs.Catalogue.{Catalogue}
+use Rattle.catalogue.specs.Catalogue.{Catalogue, suppliedPlaces}
 use Rattle.catalogue.specs.declared.ranks.Ranking.{Ranking}
 use Rattle.catalogue.specs.declared.ranks.Ranking.the-variants.{Refused, Ranked}
 use Rattle.index.specs.Index.{index, indexOf, mappedSequences, rankedSequences, indexRefusal, columnsOf}
@@ -25,7 +25,7 @@ use Rattle.scan.specs.Entries.{entryCount}
 use Rattle.index_search.specs.Work.{work}
 use Rattle.search.specs.Bounds.{limitRight}
 use Rattle.search.specs.Answer.{readAnswer, readEntries}
-use Rattle.indexed_mapper.specs.Map.{rankedRefusal, mapRefusal, mapAnswer, mapEntries, suppliedPlaces}
+use Rattle.indexed_mapper.specs.Map.{rankedRefusal, mapRefusal, mapAnswer, mapEntries}
 use Rattle.many_reads.specs.Reads.{rowNumbers, readsRight, listRefusal, readsRefusal, RankedMapped, RankedReads, MapsReads, ReadsMapped, rankedAnswer, rankedEntries, widthOf}
 
 -- ---- refusals of a limit and a list of reads
