@@ -2,7 +2,7 @@
 -- (REFERENCE.md, "Catalogues").
 use mathlib.Core.Path.{_≡_}
 use mathlib.Core.Bool.{Bool, true, _&&_}
-use mathlib.Core.List.{List, [], _∷_}
+use mathlib.Core.List.{List, [], _∷_, map}
 use Prim.Native.Nat.{ℕ, suc, min}
 use lib.ListN.{length}
 use lib.Dec.{leb, eqb, ltb}
