@@ -8,7 +8,7 @@ use lib.Dec.{leb, ltb, eqb}
 use Rattle.lists.specs.Filter.{filter, every}
 use Rattle.lists.specs.Sort.{sort}
 use Rattle.lists.specs.Same.{same}
-use Rattle.lists.specs.Cut.{cut, window, endsWithin}
+use Rattle.lists.specs.Cut.{cut, endsWithin}
 use Rattle.promises.specs.Slice.{Slice, old}
 use Rattle.promises.specs.Refusal.{unless, _orElse_}
 use Rattle.bases.specs.Read.{capitals}
@@ -16,7 +16,7 @@ use Rattle.catalogue.specs.Catalogue.{Catalogue, Target, Valid, catalogueRefusa
 use Rattle.columns.specs.Posting.{Posting, earlier, row}
 use Rattle.seeds.specs.Key.{keyOf, maxSeed}
 use Rattle.seeds.specs.Seeds.{seeds, keysOf, ranksOf, positionsOf}
-use Rattle.seeds.specs.Window.{starts}
+use Rattle.seeds.specs.Window.{windowOf, starts}
 
 -- every seed of sequences by rank, the first of which has rank r
 abbrev pub allSeeds : ℕ → ℕ → List (List ℕ) → List Posting
@@ -94,7 +94,7 @@ pub record Indexed (q : ℕ) (ss : List (List ℕ)) (ks rs os : List ℕ) : Type
 -- a posting is a seed of the sequences
 abbrev pub isSeed : ℕ → List (List ℕ) → Posting → Bool
 isSeed q ss p =
-    ltb (p .rank) (length ss) && ltb (p .position) (starts q (getD ss (p .rank) [])) && eqb (p .key) (keyOf (window (getD ss (p .rank) []) (p .position) q))
+    ltb (p .rank) (length ss) && ltb (p .position) (starts q (getD ss (p .rank) [])) && eqb (p .key) (keyOf (windowOf (getD ss (p .rank) []) (p .position) q))
 
 -- each row is a seed and earlier than the next
 pub record RowsRight (q : ℕ) (ss : List (List ℕ)) (ks rs os : List ℕ) : Type 0 where

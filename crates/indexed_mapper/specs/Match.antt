@@ -3,15 +3,15 @@ use mathlib.Core.Path.{_≡_}
 use mathlib.Core.Bool.{Bool, true, cond}
 use mathlib.Core.Logic.{_↔_}
 use mathlib.Core.List.{List, [], _∷_, _++_}
-use Prim.Native.Nat.{ℕ, zero, suc, _+_, _≤_, _<_}
+use Prim.Native.Nat.{ℕ, suc, _+_, _<_}
 use lib.ListN.{length}
 use lib.Dec.{eqb}
 use Rattle.lists.specs.Member.{_∈_}
 use Rattle.lists.specs.Order.{Ascending}
 use Rattle.lists.specs.Triple.{Triple, lexicographic}
-use Rattle.lists.specs.Cut.{window}
 use Rattle.bases.specs.Read.{folded, oriented}
 use Rattle.catalogue.specs.Catalogue.{Catalogue, Target, targets, isMapped, suppliedPlaces}
+use Rattle.seeds.specs.Window.{windowOf, FitsIn}
 use Rattle.seeds.specs.Seeds.{placed}
 use Rattle.scan.specs.Entries.{entryOf, cleared}
 use Rattle.search.specs.Answer.{Row}
@@ -23,9 +23,9 @@ pub record Match (c : Catalogue) (read : List ℕ) (supplied start strand : ℕ)
   pub in-catalogue : target ∈ targets c
   pub at-place : target .place ≡ supplied
   pub linear : isMapped target ≡ true
-  pub inside : start + length read ≤ length (target .bases)
+  pub inside : FitsIn (length read) (target .bases) start
   pub stranded : strand < 2
-  pub equal : window (target .bases) start (length read) ≡ oriented strand (folded read)
+  pub equal : windowOf (target .bases) start (length read) ≡ oriented strand (folded read)
 
 -- how many numbers stand before the first x
 abbrev pub placeOf : ℕ → List ℕ → ℕ

@@ -25,7 +25,7 @@ pub enum MapAnswer {
 }
 
 // The state of a read by the number of its groups.
-pub fn state_of(groups: usize) -> ReadState
+pub(crate) fn state_of(groups: usize) -> ReadState
     ensures { λ r. ⌜ stateNumber r ≡ stateOf groups ⌝ }
 {
     if groups == 0 {
