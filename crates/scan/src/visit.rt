@@ -41,14 +41,8 @@ pub fn visit(
             seen: seen + 1,
         };
     }
-    write_entry(
-        entries,
-        seen,
-        ranked[rank],
-        start,
-        start + read.len(),
-        strand,
-    );
+    let target = ranked[rank];
+    write_entry(entries, seen, target, start, start + read.len(), strand);
     Tally {
         comparisons,
         seen: seen + 1,

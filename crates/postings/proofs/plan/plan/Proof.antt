@@ -1,6 +1,7 @@
 -- `postings::plan::plan` meets its contract: the ranking's refusal, or the two counts.
 -- Assumes nothing.
 use native.Mathlib.Omega.{arith}
+use mathlib.Core.Path.{_∙_}
 use Rattle.postings.proofs.Planning.{within-buffer, prefix-length, lent, seed-length, plan-refused, plan-done}
 use borrow.Author.Needs.{needs}
 use Rattle.postings.proofs.plan.plan.Statement.{statement}
@@ -41,9 +42,9 @@ returns c = let r = c .before .before .before .before .rank-checked in let g = c
 
 returns-2 : tie.Need-returns-2
 returns-2 c =
-    let r = c .before .before .before .before .before .before .rank-checked in
-    let g = c .before .before .before .ranking2 .given in
-    plan-done _ _ _ _ (r .ensures) _ (g .1) _ (c .count-postings .ensures)
+    let r = c .before .before .before .before .before .before .before .rank-checked in
+    let g = c .before .before .before .before .ranking2 .given in
+    c .accepted-plan .ensures ∙ plan-done _ _ _ _ (r .ensures) _ (g .1) _ (c .before .count-postings .ensures)
 
 pub plan-spec : {M : Type 1} → statement M
 plan-spec =
