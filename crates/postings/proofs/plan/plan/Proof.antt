@@ -37,6 +37,9 @@ count-postings-requires c κs =
     let g = c .before .before .ranking2 .given in
     (lent _ _ _ _ (r .ensures) _ (g .1) (omega (arith, r .kept .0)), seed-length _ _ _ _ (r .ensures) _ (g .1))
 
+accepted-plan-requires : tie.Need-accepted-plan-requires
+accepted-plan-requires c κs = search needs
+
 returns : tie.Need-returns
 returns c = let r = c .before .before .before .before .rank-checked in let g = c .before .ranking .given in plan-refused _ _ _ _ (r .ensures) _ (g .1)
 
@@ -57,5 +60,6 @@ plan-spec =
     array-share-prefix-places
     slice-aggregate-count-postings
     count-postings-requires
+    accepted-plan-requires
     returns
     returns-2)

@@ -7,6 +7,9 @@ use borrow.Author.Needs.{needs}
 use Rattle.postings.proofs.plan.rank_checked.Statement.{statement}
 use Rattle.postings.proofs.plan.rank_checked.Tie as tie
 
+seed-length-right-requires : tie.Need-seed-length-right-requires
+seed-length-right-requires c κs = search needs
+
 returns : tie.Need-returns
 returns c = seed-wrong _ _ (sym (c .before .seed-length-right .ensures) ∙ not-true _ (c .if1 .taken)) _
 
@@ -22,4 +25,4 @@ returns-2 c =
     seed-fits _ _ (sym (s .before .seed-length-right .ensures) ∙ not-false _ (s .if1 .left)) _ _ (c .before .before .rank-targets .ensures)
 
 pub rank-checked-spec : {M : Type 1} → statement M
-rank-checked-spec = tie.close (tie.spec returns rank-targets-requires same-length returns-2)
+rank-checked-spec = tie.close (tie.spec seed-length-right-requires returns rank-targets-requires same-length returns-2)
