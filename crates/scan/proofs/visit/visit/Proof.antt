@@ -60,7 +60,7 @@ add-write-entry c =
     omega (arith, fit-end (a .bases .now) (a .ends .now) (a .ranked .now) (a .read .now) (s .pre .0) p (s .pre .1 .0))
 
 write-entry-requires : tie.Need-write-entry-requires
-write-entry-requires c κs = search needs
+write-entry-requires c κs = omega (arith, c .before .before .before .before .before .before .before .before .before .before .before .before .pre .1 .1 .room, c .before .before .if2 .left)
 
 add-t18 : tie.Need-add-t18
 add-t18 c = search needs
