@@ -59,6 +59,7 @@ impl OrientationCursor {
             let sequence = ranked_sequence(bases, ends, ranked, rank);
             i += 1;
             if has_room(sequence, n, self.offset, position) {
+                let start = position - self.offset;
                 return Candidate {
                     cursor: OrientationCursor {
                         strand: self.strand,
@@ -68,7 +69,7 @@ impl OrientationCursor {
                     },
                     found: true,
                     rank,
-                    start: position - self.offset,
+                    start,
                 };
             }
         }

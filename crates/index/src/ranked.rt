@@ -19,7 +19,8 @@ pub fn ranked_sequence<'a, 'b, 'c>(
     requires { ⌜ Lent (now bases) (now ends) (now ranked) × (rank < length (now ranked)) ⌝ }
     ensures { λ r. ⌜ now r ≡ getD (lentSequences bases ends ranked) rank [] ⌝ }
 {
-    sequence_at(bases, ends, ranked[rank])
+    let place = ranked[rank];
+    sequence_at(bases, ends, place)
 }
 
 // How many seeds of q bases a sequence has.

@@ -1,7 +1,7 @@
 -- From the ranking of a catalogue to its sequences by rank, and the answers of the public calls.
 -- Assumes nothing.
 use mathlib.Core.Path.{_≡_, refl, sym, ap, ap₂, _∙_}
-use mathlib.Core.Bool.{Bool, true}
+use mathlib.Core.Bool.{Bool, true, false}
 use mathlib.Core.Logic.{inl, inr}
 use mathlib.Core.List.{List, [], _∷_, _++_, map}
 use Prim.Native.Nat.{ℕ, zero, suc, _+_, _<_, _≤_}
@@ -28,7 +28,7 @@ use Rattle.catalogue.proofs.Refusals.{refused-ranked, valid}
 use Rattle.seeds.specs.Seeds.{keysOf, ranksOf, positionsOf, placed, Stored}
 use Rattle.seeds.specs.Key.{SeedLength}
 use Rattle.index.specs.Index.{allSeeds, index, indexOf, mappedSequences, rankedSequences, seedRight, planRefusal, buildRefusal, indexRefusal, columnsOf, Lent}
-use Rattle.postings.specs.Answers.{planned, PlanRanked, entries, Builds, BuiltAs, BuiltFrom}
+use Rattle.postings.specs.Answers.{planned, PlanRanked, builtOutcome, entries, Builds, BuiltAs, BuiltFrom}
 use Rattle.postings.specs.declared.plan.Counts.{Counts}
 use Rattle.postings.specs.declared.plan.Built.{Built}
 use Rattle.postings.specs.declared.plan.Built.the-variants as builts
@@ -41,18 +41,13 @@ counts k n = record { targets = k; postings = n }
 -- ---- the seed length
 
 module _ (q : ℕ) (c : Catalogue) where
-  pub seed-short : (buffer : List ℕ) → q < 1 → PlanRanked q c (Refused 1) buffer
+  pub seed-wrong : seedRight q ≡ false → (buffer : List ℕ) → PlanRanked q c (Refused 1) buffer
   unfolding planRefusal
-  seed-short buffer h = record { answer = rw (lt-leb 1 q h); ranks = λ k e. absurd (refused-ranked e) }
+  seed-wrong h buffer = record { answer = rw h refl; ranks = λ k e. absurd (refused-ranked e) }
 
-  module _ (some : 1 ≤ q) where
-    pub seed-long : (buffer : List ℕ) → 31 < q → PlanRanked q c (Refused 1) buffer
-    unfolding planRefusal
-    seed-long buffer h = record { answer = rw (le-leb 1 q some, lt-leb q 31 h); ranks = λ k e. absurd (refused-ranked e) }
-
-    pub seed-fits : q ≤ 31 → (r : Ranking) (buffer : List ℕ) → RankedAs c r buffer → PlanRanked q c r buffer
-    unfolding planRefusal
-    seed-fits most r buffer a = record { answer = rw (le-leb 1 q some, le-leb q 31 most) (a .answer); ranks = a .ranks }
+  pub seed-fits : seedRight q ≡ true → (r : Ranking) (buffer : List ℕ) → RankedAs c r buffer → PlanRanked q c r buffer
+  unfolding planRefusal
+  seed-fits h r buffer a = record { answer = rw h (a .answer); ranks = a .ranks }
 
   -- a plan that is not refused
   pub plan-right : planRefusal q c ≡ 0 → SeedLength q × Valid c
@@ -168,11 +163,11 @@ module _ (q : ℕ) (ss : List (List ℕ)) (ks rs os : List ℕ) where
   pub no-room : entries ks rs os < length (allSeeds q 0 ss) → BuiltFrom q ss (builts.Refused 5) ks rs os ks rs os
   no-room h = rw (lt-leb (length (indexOf q ss)) (entries ks rs os) (omega (arith, length-index q ss))) (record { answer = refl; keys = refl; ranks = refl; positions = refl })
 
-  pub with-room : (n : ℕ) → n ≡ length (allSeeds q 0 ss) → n ≤ entries ks rs os → (ks′ rs′ os′ : List ℕ) → Stored 0 (indexOf q ss) ks rs os ks′ rs′ os′ → BuiltFrom q ss (builts.Built n) ks rs os ks′ rs′ os′
-  with-room n e h ks′ rs′ os′ s =
+  pub with-room : (n : ℕ) → n ≡ length (allSeeds q 0 ss) → n ≤ entries ks rs os → (ks′ rs′ os′ : List ℕ) → Stored 0 (indexOf q ss) ks rs os ks′ rs′ os′ → (r : Built) → builtOutcome r ≡ accepted n → BuiltFrom q ss r ks rs os ks′ rs′ os′
+  with-room n e h ks′ rs′ os′ s r a =
       rw (le-leb (length (indexOf q ss)) (entries ks rs os) (omega (arith, length-index q ss)))
       (record {
-        answer = ap accepted (e ∙ sym (length-index q ss));
+        answer = a ∙ ap accepted (e ∙ sym (length-index q ss));
         keys = s .keys ∙ front (keysOf (indexOf q ss)) ks;
         ranks = s .ranks ∙ front (ranksOf (indexOf q ss)) rs;
         positions = s .positions ∙ front (positionsOf (indexOf q ss)) os;

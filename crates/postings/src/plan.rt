@@ -2,11 +2,12 @@
 ghost use mathlib.Core.Path.{_≡_};
 ghost use Prim.Native.Nat.{_≤_};
 ghost use lib.ListN.{length};
+ghost use Rattle.promises.specs.Refusal.{accepted};
 ghost use Rattle.promises.specs.Slice.{old, new};
 ghost use Rattle.catalogue.specs.Catalogue.{lentCatalogue};
 ghost use Rattle.seeds.specs.Key.{SeedLength};
-ghost use Rattle.index.specs.Index.{Lent, indexRefusal, lentSequences};
-ghost use Rattle.postings.specs.Answers.{planOutcome, planned, PlanRanked, BuiltAs, BuiltFrom};
+ghost use Rattle.index.specs.Index.{Lent, seedRight, indexRefusal, lentSequences};
+ghost use Rattle.postings.specs.Answers.{planOutcome, planned, PlanRanked, builtOutcome, BuiltAs, BuiltFrom};
 use catalogue::ranks::Ranking;
 use catalogue::ranks::rank_targets;
 use index::build::build_index;
@@ -30,6 +31,30 @@ pub enum Built {
     Built(usize),
 }
 
+// Whether seeds may have a length.
+fn seed_length_right(q: usize) -> bool
+    ensures { λ r. ⌜ r ≡ seedRight q ⌝ }
+{
+    if q < 1 {
+        return false;
+    }
+    q <= 31
+}
+
+// The answer of a plan that is not refused.
+fn accepted_plan(counts: Counts) -> IndexPlan
+    ensures { λ r. ⌜ planOutcome r ≡ accepted counts ⌝ }
+{
+    IndexPlan::Planned(counts)
+}
+
+// The answer of a build that is not refused.
+fn accepted_build(n: usize) -> Built
+    ensures { λ r. ⌜ builtOutcome r ≡ accepted n ⌝ }
+{
+    Built::Built(n)
+}
+
 // Tests the seed length and the catalogue, and ranks its targets.
 pub fn rank_checked(
     ranked: &mut [usize],
@@ -43,10 +68,7 @@ pub fn rank_checked(
     requires { ⌜ 4096 ≤ length (now ranked) ⌝ }
     ensures { λ r. ⌜ PlanRanked q (lentCatalogue identifiers «identifier_ends» bases «base_ends» marks) r (new ranked) ⌝ }
 {
-    if q < 1 {
-        return Ranking::Refused(1);
-    }
-    if 31 < q {
+    if !seed_length_right(q) {
         return Ranking::Refused(1);
     }
     rank_targets(
@@ -82,7 +104,7 @@ pub fn plan(
     );
     match ranking {
         Ranking::Refused(n) => IndexPlan::Refused(n),
-        Ranking::Ranked(k) => IndexPlan::Planned(Counts {
+        Ranking::Ranked(k) => accepted_plan(Counts {
             targets: k,
             postings: count_postings(bases, base_ends, &places[..k], q),
         }),
@@ -113,7 +135,7 @@ fn build_ranked(
         return Built::Refused(5);
     }
     build_index(keys, ranks, positions, bases, ends, ranked, q);
-    Built::Built(n)
+    accepted_build(n)
 }
 
 // Builds the index of a catalogue: refusals 1 to 5, and then no column is touched; or the first entries of the columns

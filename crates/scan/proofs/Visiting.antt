@@ -46,9 +46,9 @@ module _ (bases ends ranked : List ℕ) (n rank start : ℕ) where
   pub fit-start : rank < length ranked → (sequence : List ℕ) → sequence ≡ getD (rankedSequences bases ends ranked) rank [] → start + n ≤ length sequence → Fits n (rankedSequences bases ends ranked) (place rank start 0)
   fit-start h sequence e i = record { ranked = omega (arith, ranked-many bases ends ranked); inside = omega (arith, ap length e); stranded = omega arith }
 
-  -- the other strand fits too
-  pub fit-other : Fits n (rankedSequences bases ends ranked) (place rank start 0) → Fits n (rankedSequences bases ends ranked) (place rank start 1)
-  fit-other f = record { ranked = f .ranked; inside = f .inside; stranded = omega arith }
+  -- then either strand fits
+  pub fit-other : (strand : ℕ) → strand < 2 → Fits n (rankedSequences bases ends ranked) (place rank start 0) → Fits n (rankedSequences bases ends ranked) (place rank start strand)
+  fit-other strand h f = record { ranked = f .ranked; inside = f .inside; stranded = h }
 
 -- ---- a place, and another behind it
 

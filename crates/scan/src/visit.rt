@@ -1,7 +1,10 @@
 // One place of a read: compared, counted, and entered where the read matches.
+ghost use mathlib.Core.Path.{_≡_};
+ghost use Prim.Native.Nat.{_+_, _≤_};
+ghost use lib.ListN.{length};
 ghost use Rattle.promises.specs.Slice.{old, new};
 ghost use Rattle.index.specs.Index.{lentSequences};
-ghost use Rattle.scan.specs.Searched.{Searchable, FitsAt, Going, PlaceSearched};
+ghost use Rattle.scan.specs.Searched.{maxCount, Searchable, FitsAt, Going, PlaceSearched};
 use crate::entries::write_entry;
 use index::ranked::ranked_sequence;
 use places::stands_at;
@@ -10,6 +13,14 @@ use places::stands_at;
 pub struct Tally {
     pub comparisons: u64,
     pub seen: usize,
+}
+
+// Where a read that stands at a start ends.
+fn end_of(start: usize, read: &[u8]) -> usize
+    requires { ⌜ start + length (now read) ≤ maxCount ⌝ }
+    ensures { λ r. ⌜ r ≡ start + length (old read) ⌝ }
+{
+    start + read.len()
 }
 
 // Compares a read at a place. A match within the bound is entered behind those seen before.
@@ -41,14 +52,9 @@ pub fn visit(
             seen: seen + 1,
         };
     }
-    write_entry(
-        entries,
-        seen,
-        ranked[rank],
-        start,
-        start + read.len(),
-        strand,
-    );
+    let target = ranked[rank];
+    let end = end_of(start, read);
+    write_entry(entries, seen, target, start, end, strand);
     Tally {
         comparisons,
         seen: seen + 1,

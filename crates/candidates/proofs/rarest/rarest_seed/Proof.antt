@@ -55,7 +55,7 @@ returns c =
     let s = c .before .before .before .before .before .before .before .before .before .pre .0 in
     let l = length-oriented (a .strand) (a .read .now) in
     let at = c .before .before .before .loop in
-    choosing-none (a .keys .now) (a .q) bases n _ _ _ _ _ _ (at .inv) (omega (arith, l, seed-end _ _ _ s)) (omega (arith, c .if1 .taken))
+    choosing-none (a .keys .now) (a .q) bases n _ _ _ _ _ _ (at .inv) (omega (arith, l, seed-end _ _ _ s)) (omega (arith, c .if1 .taken, at .inv .range))
 
 sub-key-next : tie.Need-sub-key-next Inv-loop μ-loop
 sub-key-next c = search needs
@@ -88,7 +88,7 @@ loop-again c =
     let at = c .before .before .before .before .before .before .loop in
     let i = at .inv in
     let o : at .o - 1 + 1 ≡ at .o = omega (arith, i .some) in
-    choosing-more (a .keys .now) (a .q) bases n _ _ _ _ _ _ i (c .before .before .before .before .before .loop-test .taken) (c .before .before .before .if1 .left) _ _ _ (c .before .before .key-next .ensures ∙ ap (λ k. keyOf (window bases k (a .q))) o) (c .before .posting-range2 .ensures) _ _ _ _ (c .or .ensures)
+    choosing-more (a .keys .now) (a .q) bases n _ _ _ _ _ _ i (c .before .before .before .before .before .loop-test .taken) (λ z. omega (arith, z, c .before .before .before .if1 .left)) _ _ _ (c .before .before .key-next .ensures ∙ ap (λ k. keyOf (window bases k (a .q))) o) (c .before .posting-range2 .ensures) _ _ _ _ (c .or .ensures)
 
 returns-2 : tie.Need-returns-2 Inv-loop μ-loop
 returns-2 c =

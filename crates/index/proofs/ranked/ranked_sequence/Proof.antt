@@ -1,21 +1,22 @@
 -- `postings::ranked::ranked_sequence` meets its contract: a ranked place is one of the targets.
 -- Assumes nothing.
 use mathlib.Core.Path.{_∙_}
+use native.Mathlib.Omega.{arith}
 use Rattle.index.proofs.Sequencing.{place-below, ranked-at}
 use borrow.Author.Needs.{needs}
 use Rattle.index.proofs.ranked.ranked_sequence.Statement.{statement}
 use Rattle.index.proofs.ranked.ranked_sequence.Tie as tie
 
-mul-sequence-at : tie.Need-mul-sequence-at
-mul-sequence-at c = search needs
+mul-place : tie.Need-mul-place
+mul-place c = search needs
 
-shared-slice-read-sequence-at : tie.Need-shared-slice-read-sequence-at
-shared-slice-read-sequence-at c = search needs
+shared-slice-read-place : tie.Need-shared-slice-read-place
+shared-slice-read-place c = search needs
 
 sequence-at-requires : tie.Need-sequence-at-requires
 sequence-at-requires c κs =
     let a = c .before .before .before .before .args in
-    (c .before .before .before .before .pre .0 .right, place-below (a .bases .now) (a .ends .now) (a .ranked .now) (c .before .before .before .before .pre .0) (a .rank) (c .before .before .before .before .pre .1))
+    (c .before .before .before .before .pre .0 .right, omega (arith, place-below (a .bases .now) (a .ends .now) (a .ranked .now) (c .before .before .before .before .pre .0) (a .rank) (c .before .before .before .before .pre .1)))
 
 returns : tie.Need-returns
 returns c =
@@ -24,4 +25,4 @@ returns c =
 
 pub ranked-sequence-spec : {M : Type 1} → statement M
 ranked-sequence-spec =
-    tie.close (tie.spec mul-sequence-at shared-slice-read-sequence-at sequence-at-requires returns)
+    tie.close (tie.spec mul-place shared-slice-read-place sequence-at-requires returns)

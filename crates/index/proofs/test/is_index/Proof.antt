@@ -29,7 +29,8 @@ returns-3 c =
     other-number (a .q) ss (a .keys .now) (a .ranks .now) (a .positions .now) (λ e. omega (arith, c .if3 .taken, e .2, length-index (a .q) ss, c .before .before .before .count-postings .ensures))
 
 rows-right-requires : tie.Need-rows-right-requires
-rows-right-requires c κs = search needs
+rows-right-requires c κs =
+    (record { ranks = omega (arith, c .before .if2 .left, c .before .before .if1 .left); positions = omega (arith, c .if3 .left, c .before .before .if1 .left) }, c .before .before .before .before .before .before .before .before .before .before .pre)
 
 returns-4 : tie.Need-returns-4
 returns-4 c = by-rows _ _ _ _ _ (record { ranks = omega (arith, c .before .before .if2 .left, c .before .before .before .if1 .left); positions = omega (arith, c .before .if3 .left, c .before .before .before .if1 .left) }) (omega (arith, c .before .before .before .if1 .left, c .before .before .before .before .count-postings .ensures)) _ (c .rows-right .ensures)

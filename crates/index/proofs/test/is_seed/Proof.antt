@@ -17,7 +17,7 @@ returns c =
     no-rank (a .q) ss (a .key) (a .rank) (a .position) (omega (arith, z, c .if1 .taken))
 
 ranked-sequence-requires : tie.Need-ranked-sequence-requires
-ranked-sequence-requires c κs = search needs
+ranked-sequence-requires c κs = (c .before .before .before .before .pre .0, omega (arith, c .if1 .left))
 
 has-seed-requires : tie.Need-has-seed-requires
 has-seed-requires c κs = search needs

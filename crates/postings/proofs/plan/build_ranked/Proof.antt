@@ -24,6 +24,9 @@ build-index-requires c κs =
     let n = s .count-postings .ensures in
     (s .before .before .before .before .before .before .before .pre, record { keys = omega (arith, n, c .before .before .before .before .before .if1 .left); ranks = omega (arith, n, c .before .before .before .before .if2 .left); positions = omega (arith, n, c .before .before .before .if3 .left) })
 
+accepted-build-requires : tie.Need-accepted-build-requires
+accepted-build-requires c κs = search needs
+
 same-length : tie.Need-same-length
 same-length c = search needs
 
@@ -35,8 +38,8 @@ same-length-3 c = search needs
 
 returns-4 : tie.Need-returns-4
 returns-4 c =
-    let s = c .before .before .before .before .before .before .before .before .before .before in
-    with-room _ _ _ _ _ _ (s .before .before .before .count-postings .ensures) (omega (arith, s .before .before .if1 .left, s .before .if2 .left, s .if3 .left)) _ _ _ (c .before .before .before .before .before .before .build-index .ensures)
+    let s = c .before .before .before .before .before .before .before .before .before .before .before in
+    with-room _ _ _ _ _ _ (s .before .before .before .count-postings .ensures) (omega (arith, s .before .before .if1 .left, s .before .if2 .left, s .if3 .left)) _ _ _ (c .before .before .before .before .before .before .before .build-index .ensures) _ (c .accepted-build .ensures)
 
 pub build-ranked-spec : {M : Type 1} → statement M
 build-ranked-spec =
@@ -47,6 +50,7 @@ build-ranked-spec =
     returns-2
     returns-3
     build-index-requires
+    accepted-build-requires
     same-length
     same-length-2
     same-length-3

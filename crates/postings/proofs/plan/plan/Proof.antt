@@ -1,6 +1,7 @@
 -- `postings::plan::plan` meets its contract: the ranking's refusal, or the two counts.
 -- Assumes nothing.
 use native.Mathlib.Omega.{arith}
+use mathlib.Core.Path.{_∙_}
 use Rattle.postings.proofs.Planning.{within-buffer, prefix-length, lent, seed-length, plan-refused, plan-done}
 use borrow.Author.Needs.{needs}
 use Rattle.postings.proofs.plan.plan.Statement.{statement}
@@ -36,14 +37,17 @@ count-postings-requires c κs =
     let g = c .before .before .ranking2 .given in
     (lent _ _ _ _ (r .ensures) _ (g .1) (omega (arith, r .kept .0)), seed-length _ _ _ _ (r .ensures) _ (g .1))
 
+accepted-plan-requires : tie.Need-accepted-plan-requires
+accepted-plan-requires c κs = search needs
+
 returns : tie.Need-returns
 returns c = let r = c .before .before .before .before .rank-checked in let g = c .before .ranking .given in plan-refused _ _ _ _ (r .ensures) _ (g .1)
 
 returns-2 : tie.Need-returns-2
 returns-2 c =
-    let r = c .before .before .before .before .before .before .rank-checked in
-    let g = c .before .before .before .ranking2 .given in
-    plan-done _ _ _ _ (r .ensures) _ (g .1) _ (c .count-postings .ensures)
+    let r = c .before .before .before .before .before .before .before .rank-checked in
+    let g = c .before .before .before .before .ranking2 .given in
+    c .accepted-plan .ensures ∙ plan-done _ _ _ _ (r .ensures) _ (g .1) _ (c .before .count-postings .ensures)
 
 pub plan-spec : {M : Type 1} → statement M
 plan-spec =
@@ -56,5 +60,6 @@ plan-spec =
     array-share-prefix-places
     slice-aggregate-count-postings
     count-postings-requires
+    accepted-plan-requires
     returns
     returns-2)

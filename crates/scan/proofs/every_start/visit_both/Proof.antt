@@ -10,7 +10,7 @@ use Rattle.scan.proofs.every_start.visit_both.Tie as tie
 visit-requires : tie.Need-visit-requires
 visit-requires c κs =
     let s = c .before .before .before .before .before .before in let a = s .args in let ss = rankedSequences (a .bases .now) (a .ends .now) (a .ranked .now) in
-    (s .pre .0, (s .pre .1 .0, both-first ss (a .ranked .now) (a .read .now) _ _ _ _ (s .pre .1 .1)))
+    (s .pre .0, (fit-other (a .bases .now) (a .ends .now) (a .ranked .now) _ _ _ _ (omega arith) (s .pre .1 .0), both-first ss (a .ranked .now) (a .read .now) _ _ _ _ (s .pre .1 .1)))
 
 same-length : tie.Need-same-length
 same-length c = search needs
@@ -25,7 +25,7 @@ visit-requires-2 c κs =
     let s = c .before .before .before .before .before .before .before .before .before .before .before .before in
     let a = s .args in
     let ss = rankedSequences (a .bases .now) (a .ends .now) (a .ranked .now) in
-    (s .pre .0, (fit-other (a .bases .now) (a .ends .now) (a .ranked .now) _ _ _ (s .pre .1 .0), both-second ss (a .ranked .now) (a .read .now) _ _ _ _ (s .pre .1 .1) _ _ _ _ (c .before .before .before .before .before .visit .ensures) (omega (arith, c .before .if1 .left))))
+    (s .pre .0, (fit-other (a .bases .now) (a .ends .now) (a .ranked .now) _ _ _ _ (omega arith) (s .pre .1 .0), both-second ss (a .ranked .now) (a .read .now) _ _ _ _ (s .pre .1 .1) _ _ _ _ (c .before .before .before .before .before .visit .ensures) (omega (arith, c .before .if1 .left))))
 
 same-length-2 : tie.Need-same-length-2
 same-length-2 c = search needs

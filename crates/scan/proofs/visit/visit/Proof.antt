@@ -35,8 +35,8 @@ returns c =
     let ss = rankedSequences (a .bases .now) (a .ends .now) (a .ranked .now) in
     place-differs ss _ _ _ p _ _ _ (fit-matches (a .bases .now) (a .ends .now) (a .ranked .now) (a .read .now) (s .pre .0) p (s .pre .1 .0) _ (c .before .before .ranked-sequence .ensures) _ (c .before .stands-at .ensures) ∙ not-true _ (c .if1 .taken))
 
-add-t16 : tie.Need-add-t16
-add-t16 c = search needs
+add-t18 : tie.Need-add-t18
+add-t18 c = search needs
 
 returns-2 : tie.Need-returns-2
 returns-2 c =
@@ -44,38 +44,38 @@ returns-2 c =
     let ss = rankedSequences (a .bases .now) (a .ends .now) (a .ranked .now) in
     place-past ss _ _ _ p _ _ _ (fit-matches (a .bases .now) (a .ends .now) (a .ranked .now) (a .read .now) (s .pre .0) p (s .pre .1 .0) _ (c .before .before .before .ranked-sequence .ensures) _ (c .before .before .stands-at .ensures) ∙ not-false _ (c .before .if1 .left)) (omega (arith, c .if2 .taken, s .pre .1 .1 .within))
 
-mul-write-entry : tie.Need-mul-write-entry
-mul-write-entry c =
-    let s = c .before .before .before .before .before .before .before .before .before .before .before in let a = s .args in let p = place (a .rank) (a .start) (a .strand) in
+mul-target : tie.Need-mul-target
+mul-target c =
+    let s = c .before .before .before .before .before .before .before .before .before .before in let a = s .args in let p = place (a .rank) (a .start) (a .strand) in
     omega (arith, fit-ranked (a .bases .now) (a .ends .now) (a .ranked .now) (a .read .now) (s .pre .0) p (s .pre .1 .0), s .pre .0 .lent .few)
 
-shared-slice-read-write-entry : tie.Need-shared-slice-read-write-entry
-shared-slice-read-write-entry c =
-    let s = c .before .before .before .before .before .before .before .before .before .before .before .before in let a = s .args in let p = place (a .rank) (a .start) (a .strand) in
+shared-slice-read-target : tie.Need-shared-slice-read-target
+shared-slice-read-target c =
+    let s = c .before .before .before .before .before .before .before .before .before .before .before in let a = s .args in let p = place (a .rank) (a .start) (a .strand) in
     fit-ranked (a .bases .now) (a .ends .now) (a .ranked .now) (a .read .now) (s .pre .0) p (s .pre .1 .0)
 
-add-write-entry : tie.Need-add-write-entry
-add-write-entry c =
-    let s = c .before .before .before .before .before .before .before .before .before .before .before .before in let a = s .args in let p = place (a .rank) (a .start) (a .strand) in
+end-of-requires : tie.Need-end-of-requires
+end-of-requires c κs =
+    let s = c .before .before .before .before .before .before .before .before .before .before .before in let a = s .args in let p = place (a .rank) (a .start) (a .strand) in
     omega (arith, fit-end (a .bases .now) (a .ends .now) (a .ranked .now) (a .read .now) (s .pre .0) p (s .pre .1 .0))
 
 write-entry-requires : tie.Need-write-entry-requires
-write-entry-requires c κs = search needs
+write-entry-requires c κs = omega (arith, c .before .before .before .before .before .before .before .before .before .before .before .before .before .pre .1 .1 .room, c .before .before .before .if2 .left)
 
-add-t20 : tie.Need-add-t20
-add-t20 c = search needs
+add-t19 : tie.Need-add-t19
+add-t19 c = search needs
 
 same-length : tie.Need-same-length
 same-length c = search needs
 
 returns-3 : tie.Need-returns-3
 returns-3 c =
-    let s = c .before .before .before .before .before .before .before .before .before .before .before .before .before .before .before in
+    let s = c .before .before .before .before .before .before .before .before .before .before .before .before .before .before .before .before in
     let a = s .args in
     let p = place (a .rank) (a .start) (a .strand) in
     let ss = rankedSequences (a .bases .now) (a .ends .now) (a .ranked .now) in
-    let k = place-entered ss (a .ranked .now) (a .read .now) (a .bound) p (a .tally .comparisons) (a .tally .seen) (a .entries .now) (fit-matches (a .bases .now) (a .ends .now) (a .ranked .now) (a .read .now) (s .pre .0) p (s .pre .1 .0) _ (c .before .before .before .before .before .before .before .before .ranked-sequence .ensures) _ (c .before .before .before .before .before .before .before .stands-at .ensures) ∙ not-false _ (c .before .before .before .before .before .before .if1 .left)) (omega (arith, c .before .before .before .before .before .if2 .left)) in
-    rw (c .before .before .write-entry .ensures) k
+    let k = place-entered ss (a .ranked .now) (a .read .now) (a .bound) p (a .tally .comparisons) (a .tally .seen) (a .entries .now) (fit-matches (a .bases .now) (a .ends .now) (a .ranked .now) (a .read .now) (s .pre .0) p (s .pre .1 .0) _ (c .before .before .before .before .before .before .before .before .before .ranked-sequence .ensures) _ (c .before .before .before .before .before .before .before .before .stands-at .ensures) ∙ not-false _ (c .before .before .before .before .before .before .before .if1 .left)) (omega (arith, c .before .before .before .before .before .before .if2 .left)) in
+    rw (c .before .before .write-entry .ensures, c .before .before .before .before .end-of .ensures) k
 
 pub visit-spec : {M : Type 1} → statement M
 visit-spec =
@@ -85,12 +85,12 @@ visit-spec =
     ranked-sequence-requires
     stands-at-requires
     returns
-    add-t16
+    add-t18
     returns-2
-    mul-write-entry
-    shared-slice-read-write-entry
-    add-write-entry
+    mul-target
+    shared-slice-read-target
+    end-of-requires
     write-entry-requires
-    add-t20
+    add-t19
     same-length
     returns-3)

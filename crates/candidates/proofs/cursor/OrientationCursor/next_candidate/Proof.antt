@@ -42,8 +42,10 @@ add-i c = search needs
 has-room-requires : tie.Need-has-room-requires Inv-loop μ-loop
 has-room-requires c κs = search needs
 
-sub-t15 : tie.Need-sub-t15 Inv-loop μ-loop
-sub-t15 c = room-after (c .before .before .before .ranked-sequence .result .now) _ _ _ (sym (c .before .before .has-room .ensures) ∙ c .before .if2 .taken)
+sub-start : tie.Need-sub-start Inv-loop μ-loop
+sub-start c =
+    let a = c .before .before .before .before .before .before .before .before .before .before .before .before .before .before .args in
+    omega (arith, room-after (c .before .before .before .ranked-sequence .result .now) (a .n) (a .self .offset) (c .before .before .before .before .posting-position .result) (sym (c .before .before .has-room .ensures) ∙ c .before .if2 .taken))
 
 returns : tie.Need-returns Inv-loop μ-loop
 returns c =
@@ -82,7 +84,7 @@ next-candidate-spec =
     ranked-sequence-requires
     add-i
     has-room-requires
-    sub-t15
+    sub-start
     returns
     loop-less
     loop-again
