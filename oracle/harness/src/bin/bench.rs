@@ -93,7 +93,7 @@ fn crowded(rng: &mut Rng) -> Set {
             .collect();
         c.push(format!("unitig_{k:06}").as_bytes(), &bases, 0);
     }
-    let reads = (0..20_000)
+    let reads = (0..5_000)
         .map(|i| {
             let at = rng.below(targets) * length + rng.below(length - 99);
             let read = &c.bases[at..at + 100];
@@ -104,7 +104,7 @@ fn crowded(rng: &mut Rng) -> Set {
             }
         })
         .collect();
-    Set { name: "crowded", c, q: 31, reads, limit: 1000, share: 8 }
+    Set { name: "crowded", c, q: 31, reads, limit: 1000, share: 1000 }
 }
 
 fn median(times: &mut [f64]) -> f64 {
