@@ -48,10 +48,10 @@ fn put_built(answer: &mut [u64], built: Built) -> u64
     ensures { λ r. ⌜ Put buildNumbers (builtOutcome built) r (old answer) (new answer) ⌝ }
 {
     match built {
-        Built::Refused(n) => {
-            answer[0] = n;
+        Built::Refused(refusal) => {
+            answer[0] = refusal;
             answer[1] = 0;
-            n
+            refusal
         }
         Built::Built(n) => {
             answer[0] = 0;

@@ -19,13 +19,16 @@ use search::search;
 pub fn check_read(read: &[u8], limit: u64) -> u64
     ensures { λ r. ⌜ r ≡ readRefusal (old read) limit ⌝ }
 {
-    if !length_right(read) {
+    let short = length_right(read);
+    let proper = proper_sequence(read);
+    let within = limit_right(limit);
+    if !short {
         return 7;
     }
-    if !proper_sequence(read) {
+    if !proper {
         return 8;
     }
-    if !limit_right(limit) {
+    if !within {
         return 9;
     }
     0

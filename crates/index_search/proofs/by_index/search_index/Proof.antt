@@ -110,7 +110,7 @@ returns c =
     let first = c .before .before .before .before .before .before .before .before .before .plus-first .ensures in
     let waits = sym (c .before .before .before .before .before .before .before .before .before .before .before .waits .ensures) ∙ c .before .before .before .before .before .before .before .before .before .before .if1 .taken in
     let next = c .before .before .before .before .before .before .before .before .side .ensures in
-    found-stopped _ ss (a .ranked .now) _ _ _ _ _ _ _ _ ch _ _ _ _ at _ first waits _ next _ _ _ (c .before .before .before .before .before .visit .ensures) (c .before .if2 .taken) _ (c .index-work .ensures)
+    found-stopped _ ss (a .ranked .now) _ _ _ _ _ _ _ _ ch _ _ _ _ at _ first waits _ next _ _ _ (c .before .before .before .before .before .visit .ensures) (omega (arith, c .before .if2 .taken)) _ (c .index-work .ensures)
 
 moved-requires : tie.Need-moved-requires Inv-loop μ-loop
 moved-requires c κs =
@@ -147,7 +147,7 @@ loop-again c =
     let first = c .before .before .before .before .before .before .before .before .before .plus-first .ensures in
     let waits = sym (c .before .before .before .before .before .before .before .before .before .before .before .waits .ensures) ∙ c .before .before .before .before .before .before .before .before .before .before .if1 .taken in
     let next = c .before .before .before .before .before .before .before .before .side .ensures in
-    both-more _ ss (a .ranked .now) _ _ _ _ _ _ _ _ ch _ _ _ _ at _ first waits _ next _ _ _ (c .before .before .before .before .before .visit .ensures) (c .before .if2 .left) _ (c .moved .ensures)
+    both-more _ ss (a .ranked .now) _ _ _ _ _ _ _ _ ch _ _ _ _ at _ first waits _ next _ _ _ (c .before .before .before .before .before .visit .ensures) (omega (arith, c .before .if2 .left)) _ (c .moved .ensures)
 
 index-work-requires-2 : tie.Need-index-work-requires-2 Inv-loop μ-loop
 index-work-requires-2 c κs =
