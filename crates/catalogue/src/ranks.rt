@@ -13,7 +13,7 @@ use crate::bounds::all_proper;
 use crate::bounds::in_bounds;
 use names::order::order_names;
 
-// A catalogue's refusal, 2 to 4, or the number of its mapped targets.
+// A refusal, 2 to 4 for a catalogue and 1 for a seed length, or the number of mapped targets.
 pub enum Ranking {
     Refused(u64),
     Ranked(usize),
