@@ -1,0 +1,115 @@
+-- A fragment: its refusals, its rows, and what it leaves (REFERENCE.md, "Fragment").
+use mathlib.Core.Bool.{Bool, true, cond, _||_}
+use mathlib.Core.List.{List, [], _∷_, map}
+use Prim.Native.Nat.{ℕ, zero, suc, _+_, _*_, _/_}
+use lib.ListN.{length}
+use lib.Dec.{eqb, ltb}
+use Rattle.lists.specs.Same.{same}
+use Rattle.promises.specs.Refusal.{unless, _orElse_, Outcome, outcome}
+use Rattle.catalogue.specs.Catalogue.{Catalogue, suppliedPlaces}
+use Rattle.seeds.specs.Seeds.{placed}
+use Rattle.index.specs.Index.{mappedSequences}
+use Rattle.scan.specs.Entries.{entryCount, cleared}
+use Rattle.search.specs.Answer.{Row}
+use Rattle.ledger.specs.Booking.{Booked, Books, bookedAll, countable}
+use Rattle.audit.specs.declared.settings.AuditInputMode.{AuditInputMode}
+use Rattle.audit.specs.declared.settings.AuditInputMode.the-variants as modes
+use Rattle.audit.specs.declared.settings.Settings.{Settings}
+use Rattle.audit.specs.declared.settings.LastOrdinal.{LastOrdinal}
+use Rattle.audit.specs.declared.settings.LastOrdinal.the-variants as ordinals
+use Rattle.audit.specs.Settings.{Held, booksOf, roleNumber, rolesOf}
+use Rattle.audit.specs.Opening.{IndexLent, wayOf, openingRefusal}
+use Rattle.audit.specs.Observing.{MateRead, readRefusal, readRoom, readRow, readBooked, readEntries}
+
+pub record Fragment : Type 0 where
+  pub ordinal : ℕ
+  pub reads : List MateRead
+
+-- ---- its own checks
+
+-- 12 where this fails: the ordinal is above the last accepted one
+abbrev pub inOrder : LastOrdinal → ℕ → Bool
+inOrder ordinals.Absent ordinal = true
+inOrder (ordinals.Accepted last) ordinal = ltb last ordinal
+
+-- 13 where this fails: exactly S, or R1 then R2, by mode
+abbrev pub rolesRight : AuditInputMode → List MateRead → Bool
+rolesRight mode reads = same (map (λ (r : MateRead). roleNumber (r .role)) reads) (rolesOf mode)
+
+-- the first refusal of some reads, each by a check
+abbrev pub firstOf : (MateRead → ℕ) → List MateRead → ℕ
+firstOf check [] = 0
+firstOf check (r ∷ rs) = check r orElse firstOf check rs
+
+-- ---- the entries of each read
+
+-- how many each gets: all, or half of them where there are two
+abbrev pub shareOf : AuditInputMode → ℕ → ℕ
+shareOf modes.SingleEnd entries = entries
+shareOf modes.PairedEnd entries = entries / 2
+
+-- lists put into parts of a buffer, each part as many numbers behind the one before, the first at `from`
+abbrev pub inParts : ℕ → ℕ → List (List ℕ) → List ℕ → List ℕ
+inParts width from [] buffer = buffer
+inParts width from (l ∷ ls) buffer = inParts width (from + width) ls (placed from l buffer)
+
+-- 10 and 17 set all entries to zero, other refusals touch nothing
+abbrev pub entriesLeft : ℕ → List ℕ → List ℕ → List ℕ
+entriesLeft zero written buffer = written
+entriesLeft (suc n) written buffer = cond (eqb (suc n) 10 || eqb (suc n) 17) (cleared buffer) buffer
+
+-- ---- the call, of an audit with seeds of q bases and qualities from an offset on
+
+module _ (q offset : ℕ) (c : Catalogue) (lent : IndexLent) (h : Held) (f : Fragment) where
+  abbrev settings : Settings
+  settings = h .state .settings
+
+  abbrev ss : List (List ℕ)
+  ss = mappedSequences c
+
+  -- what is booked of its reads
+  abbrev pub fragmentBooked : List Booked
+  fragmentBooked = map (readBooked offset settings ss (wayOf q lent)) (f .reads)
+
+  -- the books with its reads
+  abbrev pub fragmentBooks : Books
+  fragmentBooks = bookedAll (suppliedPlaces c) fragmentBooked (booksOf h)
+
+  -- the opening's checks; 12; 13; 7 and 14 to 16 of each read in turn; 10 of each read; 17: the first that holds
+  unfoldable pub fragmentRefusal : ℕ → ℕ
+  fragmentRefusal entries =
+      openingRefusal q offset c lent settings (h .counters)
+      orElse unless (inOrder (h .state .last) (f .ordinal)) 12
+      orElse unless (rolesRight (settings .mode) (f .reads)) 13
+      orElse firstOf (readRefusal offset settings) (f .reads)
+      orElse firstOf (readRoom offset settings ss (shareOf (settings .mode) entries)) (f .reads)
+      orElse unless (countable fragmentBooks) 17
+
+  -- the answer: a row for each read
+  abbrev pub fragmentAnswer : ℕ → Outcome (List Row)
+  fragmentAnswer entries = outcome (fragmentRefusal entries) (map (readRow offset settings ss (wayOf q lent)) (f .reads))
+
+  -- an accepted fragment's ordinal is the last, and its reads are booked
+  abbrev pub fragmentAccepted : Held
+  fragmentAccepted =
+      record {
+        state = record { settings = settings; last = ordinals.Accepted (f .ordinal); ledger = fragmentBooks .ledger };
+        counters = fragmentBooks .counters;
+      }
+
+  -- a refusal leaves state and counters as they were
+  abbrev pub heldAfter : ℕ → Held
+  heldAfter zero = fragmentAccepted
+  heldAfter (suc n) = h
+
+  abbrev pub fragmentHeld : ℕ → Held
+  fragmentHeld entries = heldAfter (fragmentRefusal entries)
+
+  -- the entries of an accepted fragment: the listed groups of each read at the front of its part, and zero behind them
+  abbrev pub fragmentWritten : List ℕ → List ℕ
+  fragmentWritten buffer =
+      inParts (4 * shareOf (settings .mode) (entryCount buffer)) 0
+      (map (readEntries offset settings ss (suppliedPlaces c)) (f .reads)) (cleared buffer)
+
+  abbrev pub fragmentEntries : List ℕ → List ℕ
+  fragmentEntries buffer = entriesLeft (fragmentRefusal (entryCount buffer)) (fragmentWritten buffer) buffer

@@ -1,0 +1,7 @@
+pub mod Settings
+pub mod Opening
+pub mod Observing
+pub mod Fragment
+pub mod Sheet
+pub mod Unitigs
+pub mod Run

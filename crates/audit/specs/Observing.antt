@@ -1,0 +1,79 @@
+-- One read of a fragment observed (REFERENCE.md, "Observing").
+use mathlib.Core.Bool.{Bool, true, false, cond, _&&_}
+use mathlib.Core.List.{List, []}
+use Prim.Native.Nat.{ℕ}
+use lib.ListN.{length}
+use Rattle.promises.specs.Refusal.{unless, _orElse_}
+use Rattle.bases.specs.Read.{Read}
+use Rattle.bases.specs.Eligibility.{Verdict, refused, ineligible, eligible, eligibility}
+use Rattle.places.specs.Place.{Place, groups}
+use Rattle.scan.specs.Entries.{entriesOf}
+use Rattle.index_search.specs.Work.{Way, workOf, workBy}
+use Rattle.search.specs.Bounds.{lengthRight}
+use Rattle.search.specs.Answer.{Row, row, listed, mappedRow, roomRefusal}
+use Rattle.index_search.specs.declared.work.MappingWork.{MappingWork}
+use Rattle.ledger.specs.Booking.{Booked}
+use Rattle.audit.specs.declared.settings.MateRole.{MateRole}
+use Rattle.audit.specs.declared.settings.Settings.{Settings}
+use Rattle.audit.specs.Settings.{roleNumber}
+
+-- a read with its role
+pub record MateRead : Type 0 where
+  pub role : MateRole
+  pub read : Read
+
+-- the refusal of a verdict
+abbrev pub verdictRefusal : Verdict → ℕ
+verdictRefusal (refused n) = n
+verdictRefusal ineligible = 0
+verdictRefusal eligible = 0
+
+abbrev pub isEligible : Verdict → Bool
+isEligible (refused n) = false
+isEligible ineligible = false
+isEligible eligible = true
+
+-- no work
+abbrev pub noWork : MappingWork
+noWork = workOf 0 0 0 (record { comparisons = 0; seen = 0 })
+
+-- ---- under settings, with qualities from an offset on
+
+module _ (offset : ℕ) (s : Settings) where
+  -- 7, and with remap on 14 to 16
+  abbrev pub readRefusal : MateRead → ℕ
+  readRefusal r = unless (lengthRight (r .read .bases)) 7 orElse cond (s .remap) (verdictRefusal (eligibility (s .floor) offset (r .read))) 0
+
+  -- a read is searched where remap is on and it is eligible
+  abbrev pub isSearched : MateRead → Bool
+  isSearched r = s .remap && isEligible (eligibility (s .floor) offset (r .read))
+
+  -- the state of a read that is not searched: 0 is NotRequested, 1 is Ineligible
+  abbrev pub unsearched : ℕ
+  unsearched = cond (s .remap) 1 0
+
+  -- a read in sequences by rank
+  module _ (ss : List (List ℕ)) where
+    -- its groups; a read that is not searched has none
+    abbrev pub readGroups : MateRead → List Place
+    readGroups r = cond (isSearched r) (groups ss (r .read .bases)) []
+
+    -- 10, where it has so many entries
+    abbrev pub readRoom : ℕ → MateRead → ℕ
+    readRoom entries r = roomRefusal entries (s .limit) (length (readGroups r))
+
+    -- its listed groups
+    abbrev pub readListed : MateRead → List Place
+    readListed r = listed (s .limit) (readGroups r)
+
+    -- the entries of its listed groups; `ranked` holds the supplied place of each rank
+    abbrev pub readEntries : List ℕ → MateRead → List ℕ
+    readEntries ranked r = entriesOf ranked (length (r .read .bases)) (readListed r)
+
+    -- its state, the number of its listed groups, and the work of its search
+    abbrev pub readRow : Way → MateRead → Row
+    readRow way r = cond (isSearched r) (mappedRow (s .limit) (groups ss (r .read .bases)) (workBy way ss (r .read .bases) (s .limit))) (row unsearched 0 noWork)
+
+    -- what is booked of it
+    abbrev pub readBooked : Way → MateRead → Booked
+    readBooked way r = record { role = roleNumber (r .role); state = readRow way r .state; groups = readListed r }

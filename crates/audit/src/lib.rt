@@ -1,0 +1,3 @@
+// The audit: its settings and its state.
+pub mod settings;
+pub mod sheet;

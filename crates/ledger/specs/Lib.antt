@@ -1,0 +1,3 @@
+pub mod Booking
+pub mod Balance
+pub mod Counting
