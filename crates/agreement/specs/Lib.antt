@@ -1,0 +1,3 @@
+pub mod Placements
+pub mod Meaning
+pub mod Twins

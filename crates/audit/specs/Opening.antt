@@ -47,3 +47,6 @@ started c s = record { state = freshState s; counters = emptyCounters (length (t
 abbrev pub opened : ℕ → Catalogue → Settings → Counters → Held
 opened zero c s k = started c s
 opened (suc n) c s k = record { state = zeroState; counters = k }
+
+abbrev pub openingHeld : ℕ → ℕ → Catalogue → IndexLent → Settings → Counters → Held
+openingHeld q offset c lent s k = opened (openingRefusal q offset c lent s k) c s k
