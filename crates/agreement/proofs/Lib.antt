@@ -1,0 +1,4 @@
+pub mod Catalogues
+pub mod Booking
+pub mod Running
+pub mod Sheets

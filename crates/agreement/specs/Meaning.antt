@@ -1,7 +1,7 @@
 -- What the answers and the sheet of a run mean: demand 2.
 use mathlib.Core.Path.{_≡_}
 use mathlib.Core.Bool.{Bool, true, false}
-use mathlib.Core.List.{List, [], _∷_}
+use mathlib.Core.List.{List, [], _∷_, _++_}
 use Prim.Native.Nat.{ℕ, _+_, _<_}
 use Rattle.lists.specs.Cut.{window}
 use Rattle.lists.specs.Member.{_∈_}
@@ -15,8 +15,10 @@ use Rattle.audit.specs.declared.settings.Settings.{Settings}
 use Rattle.audit.specs.declared.sheet.Status.the-variants as statuses
 use Rattle.audit.specs.declared.sheet.Availability.the-variants as totals
 use Rattle.audit.specs.declared.sheet.Sheet.{Sheet}
+use Rattle.audit.specs.Settings.{Held}
 use Rattle.audit.specs.Observing.{MateRead, isSearched}
 use Rattle.audit.specs.Sheet.{shown, totalsOf, runStatus, targetShown}
+use Rattle.audit.specs.Run.{Call, answerTo, answers, after}
 
 -- each read that is searched, its row, and its part of the entries before and after: the row says whether there are more matches than
 -- the limit, and otherwise each match is listed once, ascending; the parts have `width` numbers, the first from `from` on
@@ -38,3 +40,9 @@ pub record SheetMeans (c : Catalogue) (s : Settings) (bs : List Booked) (sheet :
       → targetShown sheet k t ≡ shown (runStatus (s .remap) (anyIndeterminate bs)) (totalsOf (placementsOn (rankOf c (t .place)) bs) (singlesOn (rankOf c (t .place)) bs) (multiOn (rankOf c (t .place)) bs))
   pub closed : (t : Target) → t ∈ targets c → isMapped t ≡ false → targetShown sheet k t ≡ record { status = statuses.ClosedUnsupported; totals = totals.Unavailable }
   pub run : sheet .run ≡ shown (runStatus (s .remap) (anyIndeterminate bs)) (totalsOf (sum (k .placements)) (sum (k .singles)) (sum (k .multi)))
+
+-- a call among others can be left out: the others answer the same, and the same state and counters are left
+pub record CanBeLeftOut (q offset : ℕ) (c : Catalogue) (h : Held) (xs : List Call) (x : Call) (ys : List Call) : Type 0 where
+  pub held : after q offset c h (xs ++ x ∷ ys) ≡ after q offset c h (xs ++ ys)
+  pub with-it : answers q offset c h (xs ++ x ∷ ys) ≡ answers q offset c h xs ++ answerTo q offset c (after q offset c h xs) x ∷ answers q offset c (after q offset c h xs) ys
+  pub without : answers q offset c h (xs ++ ys) ≡ answers q offset c h xs ++ answers q offset c (after q offset c h xs) ys

@@ -38,13 +38,13 @@ place-at less o (x ∷ xs) a (suc r) h =
 module _ (c : Catalogue) (valid : Valid c) where
   -- ---- ranks
 
-  places-ascend : Ascending (placeBefore (names c)) (suppliedPlaces c)
+  pub places-ascend : Ascending (placeBefore (names c)) (suppliedPlaces c)
   places-ascend =
       ascending-map byName (placeBefore (names c)) (λ (t : Target). t .place) (mapped c)
       (λ t u m k h. ap₂ (λ x y. nameBefore x y) (sym (named-by-place c t (mapped-∈ c t m .0))) (sym (named-by-place c u (mapped-∈ c u k .0))) ∙ h)
       (mapped-ascending c (valid .distinct))
 
-  rank-is : (r : ℕ) → r < length (mapped c) → rankOf c (getD (suppliedPlaces c) r 0) ≡ r
+  pub rank-is : (r : ℕ) → r < length (mapped c) → rankOf c (getD (suppliedPlaces c) r 0) ≡ r
   rank-is r h = place-at (placeBefore (names c)) (place-order (names c)) (suppliedPlaces c) places-ascend r (omega (arith, length-map (mapped c) (λ (t : Target). t .place)))
 
   none : Target

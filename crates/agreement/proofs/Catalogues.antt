@@ -1,0 +1,64 @@
+-- The ranks of a catalogue that no opening refuses.
+-- Assumes nothing.
+use mathlib.Core.Path.{_≡_, refl, sym, ap, _∙_}
+use mathlib.Core.Bool.{Bool, true}
+use mathlib.Core.Logic.{inl, inr}
+use mathlib.Core.List.{List, [], _∷_, map}
+use Prim.Native.Nat.{ℕ, zero, suc, _+_, _<_}
+use native.Mathlib.Omega.{arith}
+use lib.ListN.{length, getD, length-map}
+use Rattle.lists.specs.Member.{_∈_, Distinct}
+use Rattle.lists.specs.Order.{StrictOrder, Ascending}
+use Rattle.lists.proofs.Member.{∈-map, map-∈, ∈-getD}
+use Rattle.lists.proofs.Order.{later-differs}
+use Rattle.promises.specs.Refusal.{unless, _orElse_}
+use Rattle.promises.proofs.Refusing.{none-first, none-second}
+use Rattle.names.proofs.NameLaws.{place-order}
+use Rattle.names.specs.Ordered.{placeBefore}
+use Rattle.catalogue.specs.Catalogue.{Catalogue, Target, Valid, names, sequences, targetsFrom, targets, isMapped, catalogueRefusal, mapped, suppliedPlaces}
+use Rattle.catalogue.proofs.Mapped.{mapped-∈, ∈-mapped}
+use Rattle.catalogue.proofs.Refusals.{valid}
+use Rattle.search.specs.Bounds.{limitRight}
+use Rattle.indexed_mapper.specs.Match.{rankOf}
+use Rattle.indexed_mapper.proofs.Matching.{places-ascend, rank-is}
+use Rattle.ledger.specs.Booking.{Counters}
+use Rattle.ledger.specs.Counting.{Ranked}
+use Rattle.audit.specs.declared.settings.Settings.{Settings}
+use Rattle.audit.specs.Settings.{floorRight}
+use Rattle.audit.specs.Opening.{IndexLent, indexRight, countersRight, openingRefusal}
+
+-- the opening's checks have passed
+pub opening-valid : (q offset : ℕ) (c : Catalogue) (lent : IndexLent) (s : Settings) (k : Counters) → openingRefusal q offset c lent s k ≡ 0 → Valid c
+unfolding openingRefusal
+opening-valid q offset c lent s k e =
+    let behind-floor = none-second (unless (floorRight offset (s .floor)) 11) _ e in
+    let behind-limit = none-second (unless (limitRight (s .limit)) 9) _ behind-floor in
+    let behind-counters = none-second (unless (countersRight c k) 2) _ behind-limit in
+    valid c (none-first (catalogueRefusal c) _ behind-counters)
+
+-- in a list that ascends no element stands twice
+ascending-distinct : {A : Type 0} (less : A → A → Bool) → StrictOrder less → (xs : List A) → Ascending less xs → Distinct xs
+ascending-distinct less o [] a = tt
+ascending-distinct less o (x ∷ xs) a = (λ m. later-differs less o x x xs a m refl, ascending-distinct less o xs (a .1))
+
+place-inside : (k : ℕ) (ns ss : List (List ℕ)) (ms : List ℕ) (t : Target) → t ∈ targetsFrom k ns ss ms → t .place < k + length (targetsFrom k ns ss ms)
+place-inside k (n ∷ ns) (s ∷ ss) (m ∷ ms) t (inl e) = rw e (omega arith)
+place-inside k (n ∷ ns) (s ∷ ss) (m ∷ ms) t (inr h) = omega (arith, place-inside (suc k) ns ss ms t h)
+
+module _ (c : Catalogue) (right : Valid c) where
+  -- ranks have different supplied places, each of a target
+  pub places-ranked : Ranked (length (targets c)) (suppliedPlaces c)
+  places-ranked = record { distinct = ascending-distinct (placeBefore (names c)) (place-order (names c)) (suppliedPlaces c) (places-ascend c right); inside = inside }
+    where
+      inside : (p : ℕ) → p ∈ suppliedPlaces c → p < length (targets c)
+      inside p m =
+          let r = map-∈ (λ (t : Target). t .place) p (mapped c) m in
+          let i = place-inside 0 (names c) (sequences c) (c .marks) (r .0) (mapped-∈ c (r .0) (r .1) .0) in
+          rw (r .2) (omega (arith, i))
+
+  -- a mapped target has a rank, and its place is that of the rank
+  pub target-ranked : (t : Target) → t ∈ targets c → isMapped t ≡ true → (rankOf c (t .place) < length (suppliedPlaces c)) × (getD (suppliedPlaces c) (rankOf c (t .place)) 0 ≡ t .place)
+  target-ranked t m on =
+      let r = ∈-getD 0 (t .place) (suppliedPlaces c) (∈-map (λ (u : Target). u .place) t (mapped c) (∈-mapped c t m on)) in
+      let e : rankOf c (t .place) ≡ r .0 = ap (rankOf c) (r .2) ∙ rank-is c right (r .0) (omega (arith, r .1, length-map (mapped c) (λ (u : Target). u .place))) in
+      (omega (arith, e, r .1), ap (λ n. getD (suppliedPlaces c) n 0) e ∙ sym (r .2))

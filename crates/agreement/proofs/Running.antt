@@ -1,0 +1,100 @@
+-- Calls one after the other: the books are the history booked, every number has 64 bits, and a call that changes nothing can be left out.
+-- Assumes nothing.
+use mathlib.Core.Path.{_≡_, refl, sym, ap, ap₂, subst, _∙_}
+use mathlib.Core.Bool.{Bool, true, false}
+use mathlib.Core.List.{List, [], _∷_, _++_}
+use Prim.Native.Nat.{ℕ, zero, suc, _≤_}
+use native.Mathlib.Omega.{arith}
+use lib.ListN.{length, replicate}
+use lib.Dec.{leb}
+use Rattle.lists.specs.Filter.{every}
+use Rattle.promises.specs.Refusal.{unless, _orElse_}
+use Rattle.promises.proofs.Refusing.{none-second, passed}
+use Rattle.catalogue.specs.Catalogue.{Catalogue, targets, suppliedPlaces}
+use Rattle.index.specs.Index.{mappedSequences}
+use Rattle.scan.specs.Entries.{entryCount}
+use Rattle.ledger.specs.Booking.{Booked, Books, bookedAll, emptyLedger, emptyCounters, maxCounter, kept, countable}
+use Rattle.ledger.proofs.Booking.{booked-append}
+use Rattle.audit.specs.declared.settings.Settings.{Settings}
+use Rattle.audit.specs.Settings.{Held, booksOf}
+use Rattle.audit.specs.Opening.{started, openingRefusal}
+use Rattle.audit.specs.Observing.{readRefusal, readRoom}
+use Rattle.audit.specs.Fragment.{Fragment, inOrder, rolesRight, firstOf, shareOf, fragmentRefusal, fragmentBooked, fragmentBooks, heldAfter}
+use Rattle.agreement.specs.Meaning.{CanBeLeftOut}
+use Rattle.audit.specs.Run.{Call, Answer, ifAccepted, answerTo, next, books, answers, after, history}
+
+-- ---- a fragment's own refusal
+
+module _ (q offset : ℕ) (c : Catalogue) (h : Held) (x : Call) where
+  abbrev refusal : ℕ
+  refusal = fragmentRefusal q offset c (x .lent) h (x .fragment) (entryCount (x .entries))
+
+  -- an accepted fragment passed the last of its checks
+  accepted-countable : refusal ≡ 0 → countable (fragmentBooks q offset c (x .lent) h (x .fragment)) ≡ true
+  unfolding fragmentRefusal
+  accepted-countable e =
+      let f = x .fragment in
+      let s : Settings = h .state .settings in
+      let a = none-second (openingRefusal q offset c (x .lent) s (h .counters)) _ e in
+      let b = none-second (unless (inOrder (h .state .last) (f .ordinal)) 12) _ a in
+      let d = none-second (unless (rolesRight (s .mode) (f .reads)) 13) _ b in
+      let g = none-second (firstOf (readRefusal offset s) (f .reads)) _ d in
+      let i = none-second (firstOf (readRoom offset s (mappedSequences c) (shareOf (s .mode) (entryCount (x .entries)))) (f .reads)) _ g in
+      passed _ 17 (λ z. omega arith) i
+
+  -- a refused one leaves state and counters as they were
+  pub refused-leaves : (refusal ≡ 0 → ⊥) → next q offset c h x ≡ h
+  refused-leaves = go refusal
+    where
+      go : (n : ℕ) → (n ≡ 0 → ⊥) → heldAfter q offset c (x .lent) h (x .fragment) n ≡ h
+      go zero ne = absurd (ne refl)
+      go (suc n) ne = refl
+
+  -- the books after a call are those before it with what it books
+  next-books : booksOf (next q offset c h x) ≡ bookedAll (suppliedPlaces c) (books q offset c h x) (booksOf h)
+  next-books = go refusal
+    where
+      go : (n : ℕ) → booksOf (heldAfter q offset c (x .lent) h (x .fragment) n) ≡ bookedAll (suppliedPlaces c) (ifAccepted n (fragmentBooked q offset c (x .lent) h (x .fragment))) (booksOf h)
+      go zero = refl
+      go (suc n) = refl
+
+  next-countable : countable (booksOf h) ≡ true → countable (booksOf (next q offset c h x)) ≡ true
+  next-countable = go refusal refl
+    where
+      go : (n : ℕ) → refusal ≡ n → countable (booksOf h) ≡ true → countable (booksOf (heldAfter q offset c (x .lent) h (x .fragment) n)) ≡ true
+      go zero e t = accepted-countable e
+      go (suc n) e t = t
+
+-- ---- a list of calls
+
+module _ (q offset : ℕ) (c : Catalogue) where
+  -- the books after calls are those before them with the history
+  pub after-books : (h : Held) (xs : List Call) → booksOf (after q offset c h xs) ≡ bookedAll (suppliedPlaces c) (history q offset c h xs) (booksOf h)
+  after-books h [] = refl
+  after-books h (x ∷ xs) =
+      after-books (next q offset c h x) xs
+      ∙ ap (bookedAll (suppliedPlaces c) (history q offset c (next q offset c h x) xs)) (next-books q offset c h x)
+      ∙ sym (booked-append (suppliedPlaces c) (books q offset c h x) (history q offset c (next q offset c h x) xs) (booksOf h))
+
+  -- every number that is kept has 64 bits
+  pub after-countable : (h : Held) → countable (booksOf h) ≡ true → (xs : List Call) → countable (booksOf (after q offset c h xs)) ≡ true
+  after-countable h t [] = t
+  after-countable h t (x ∷ xs) = after-countable (next q offset c h x) (next-countable q offset c h x t) xs
+
+  -- calls behind others
+  after-append : (h : Held) (xs ys : List Call) → after q offset c h (xs ++ ys) ≡ after q offset c (after q offset c h xs) ys
+  after-append h [] ys = refl
+  after-append h (x ∷ xs) ys = after-append (next q offset c h x) xs ys
+
+  answers-append : (h : Held) (xs ys : List Call) → answers q offset c h (xs ++ ys) ≡ answers q offset c h xs ++ answers q offset c (after q offset c h xs) ys
+  answers-append h [] ys = refl
+  answers-append h (x ∷ xs) ys = ap {B = List Answer} (λ l. answerTo q offset c h x ∷ l) (answers-append (next q offset c h x) xs ys)
+
+  -- a call that leaves state and counters as they were
+  pub spare-call : (h : Held) (xs : List Call) (x : Call) (ys : List Call) → next q offset c (after q offset c h xs) x ≡ after q offset c h xs → CanBeLeftOut q offset c h xs x ys
+  spare-call h xs x ys e =
+      record {
+        held = after-append h xs (x ∷ ys) ∙ ap (λ i. after q offset c i ys) e ∙ sym (after-append h xs ys);
+        with-it = answers-append h xs (x ∷ ys) ∙ ap {B = List Answer} (λ i. answers q offset c h xs ++ answerTo q offset c (after q offset c h xs) x ∷ answers q offset c i ys) e;
+        without = answers-append h xs ys;
+      }

@@ -1,0 +1,224 @@
+-- What a run behind an accepted opening has counted, and what `finish` shows of it.
+-- Assumes nothing.
+use mathlib.Core.Path.{_≡_, refl, sym, ap, ap₂, subst, _∙_}
+use mathlib.Core.Bool.{Bool, true, false, not, cond, _||_}
+use mathlib.Core.Logic.{inl, inr}
+use mathlib.Core.List.{List, [], _∷_, _++_, map}
+use Prim.Native.Nat.{ℕ, zero, suc, _+_, _≤_, _<_}
+use native.Mathlib.Omega.{arith}
+use lib.ListN.{length, getD, replicate, length-map}
+use lib.Dec.{eqb, leb}
+use borrow.Author.Tests.{eq-eqb, le-leb}
+use Rattle.lists.specs.Filter.{every}
+use Rattle.lists.specs.Member.{_∈_, Distinct}
+use Rattle.lists.proofs.Cases.{clash, and-true}
+use Rattle.lists.proofs.Every.{every-∈}
+use Rattle.lists.specs.Triple.{Triple}
+use Rattle.promises.specs.Refusal.{unless, _orElse_, accepted}
+use Rattle.promises.proofs.Refusing.{outcome-accepted}
+use Rattle.names.specs.Name.{distinctNames}
+use Rattle.catalogue.specs.Catalogue.{Catalogue, Target, Valid, targets, names, sequences, isMapped, mapped, suppliedPlaces, inBounds, properSequence, catalogueRefusal}
+use Rattle.index.specs.Index.{mappedSequences}
+use Rattle.search.specs.Bounds.{limitRight}
+use Rattle.indexed_mapper.specs.Match.{rankOf}
+use Rattle.ledger.specs.Booking.{Booked, Counters, Books, bookedAll, emptyLedger, emptyCounters, maxCounter, countable}
+use Rattle.ledger.specs.Balance.{sum, countOf, balanced}
+use Rattle.ledger.specs.Counting.{readsIn, readsOf, anyIndeterminate, placementsOn, singlesOn, multiOn, Bookable, Ranked, Counts}
+use Rattle.ledger.proofs.Booking.{booked-lengths}
+use Rattle.ledger.proofs.Counting.{booked-counts}
+use Rattle.ledger.proofs.Balancing.{states-sum, counts-balanced}
+use Rattle.audit.specs.declared.settings.AuditInputMode.{AuditInputMode}
+use Rattle.audit.specs.declared.settings.AuditInputMode.the-variants as modes
+use Rattle.audit.specs.declared.settings.Settings.{Settings}
+use Rattle.audit.specs.declared.sheet.Status.{Status}
+use Rattle.audit.specs.declared.sheet.Status.the-variants as statuses
+use Rattle.audit.specs.declared.sheet.PlacementTotals.{PlacementTotals}
+use Rattle.audit.specs.declared.sheet.Sheet.{Sheet}
+use Rattle.audit.specs.Settings.{Held, booksOf, floorRight, rolesOf, statesShown}
+use Rattle.audit.specs.Observing.{readBooked}
+use Rattle.audit.specs.Opening.{IndexLent, indexRight, countersRight, started, openingRefusal, openingHeld, opened}
+use Rattle.audit.specs.Sheet.{shown, totalsOf, runStatus, sheetOf, roleShown, targetShown, finishRefusal, finishAnswer}
+use Rattle.audit.specs.Run.{Call, after, history}
+use Rattle.agreement.specs.Meaning.{SheetMeans}
+use Rattle.agreement.proofs.Catalogues.{opening-valid, places-ranked, target-ranked}
+use Rattle.agreement.proofs.Booking.{shown-few, state-shown, read-bookable, settings-after, history-all}
+use Rattle.agreement.proofs.Running.{after-books, after-countable}
+
+-- ---- roles, states, statuses
+
+few-roles : (mode : AuditInputMode) (role : ℕ) → role ∈ rolesOf mode → role < 3
+few-roles modes.SingleEnd role (inl e) = omega arith
+few-roles modes.PairedEnd role (inl e) = omega arith
+few-roles modes.PairedEnd role (inr (inl e)) = omega arith
+
+-- a number that differs from each of a list does not stand in it
+not-in : (x : ℕ) (ys : List ℕ) → every (λ y. not (eqb x y)) ys ≡ true → x ∈ ys → ⊥
+not-in x ys t m = clash (eq-eqb x x refl) (not-true (eqb x x) (every-∈ (λ y. not (eqb x y)) ys t x m))
+  where
+    not-true : (b : Bool) → not b ≡ true → b ≡ false
+    not-true true e = sym e
+    not-true false e = refl
+
+distinct-states : (remap : Bool) → Distinct (statesShown remap)
+distinct-states true = (not-in 1 (2 ∷ 3 ∷ 4 ∷ 5 ∷ []) refl, (not-in 2 (3 ∷ 4 ∷ 5 ∷ []) refl, (not-in 3 (4 ∷ 5 ∷ []) refl, (not-in 4 (5 ∷ []) refl, (not-in 5 [] refl, tt)))))
+distinct-states false = (not-in 0 [] refl, tt)
+
+status-shown : (status : Status) (t : PlacementTotals) → shown status t .status ≡ status
+status-shown statuses.Complete t = refl
+status-shown statuses.CandidateLimit t = refl
+status-shown statuses.RemapDisabled t = refl
+status-shown statuses.ClosedUnsupported t = refl
+
+totals-are : {p p′ i i′ m m′ : ℕ} → p ≡ p′ → i ≡ i′ → m ≡ m′ → totalsOf p i m ≡ totalsOf p′ i′ m′
+totals-are a b d = λ j. totalsOf (a j) (b j) (d j)
+
+no-more : (n : ℕ) → (n orElse 0) ≡ n
+no-more zero = refl
+no-more (suc n) = refl
+
+few-states : (remap : Bool) (state : ℕ) → state ∈ statesShown remap → state < 6
+few-states remap state m = shown-few remap state m
+
+-- nothing booked
+empty-countable : (n : ℕ) → countable (record { ledger = emptyLedger; counters = emptyCounters n }) ≡ true
+unfolding countable
+empty-countable n = zeros-then n (replicate n 0 ++ replicate n 0) (zeros-then n (replicate n 0) (zeros-then n [] refl))
+  where
+    small : ℕ → Bool
+    small x = leb x maxCounter
+
+    zeros : (m : ℕ) → every small (replicate m 0) ≡ true
+    zeros zero = refl
+    zeros (suc m) = zeros m
+
+    zeros-then : (m : ℕ) (ns : List ℕ) → every small ns ≡ true → every small (ns ++ replicate m 0) ≡ true
+    zeros-then m [] t = zeros m
+    zeros-then m (x ∷ ns) t = let u = and-true (small x) (every small ns) t in rw (u .0) (zeros-then m ns (u .1))
+
+-- ---- the opening's numbers
+
+opening-not-18 : (q offset : ℕ) (c : Catalogue) (lent : IndexLent) (s : Settings) (k : Counters) → openingRefusal q offset c lent s k ≡ 18 → ⊥
+unfolding openingRefusal catalogueRefusal
+opening-not-18 q offset c lent s k =
+    go (floorRight offset (s .floor)) (limitRight (s .limit)) (countersRight c k) (inBounds c) (every properSequence (sequences c)) (distinctNames (names c)) (not (s .remap) || indexRight q c lent)
+  where
+    go : (floor limit counters bounds proper distinct index : Bool)
+        → (unless floor 11 orElse unless limit 9 orElse unless counters 2 orElse (unless bounds 2 orElse unless proper 3 orElse unless distinct 4) orElse unless index 6) ≡ 18 → ⊥
+    go false l k b p d i e = omega arith
+    go true false k b p d i e = omega arith
+    go true true false b p d i e = omega arith
+    go true true true false p d i e = omega arith
+    go true true true true false d i e = omega arith
+    go true true true true true false i e = omega arith
+    go true true true true true true false e = omega arith
+    go true true true true true true true e = omega arith
+
+module _ (q offset : ℕ) (c : Catalogue) (lent : IndexLent) (s : Settings) (k : Counters) (begun : openingRefusal q offset c lent s k ≡ 0) (xs : List Call) where
+  abbrev start : Held
+  start = openingHeld q offset c lent s k
+
+  abbrev end : Held
+  end = after q offset c start xs
+
+  abbrev booked : List Booked
+  booked = history q offset c start xs
+
+  start-is : start ≡ started c s
+  start-is = ap (λ n. opened n c s k) begun
+
+  ranked-many : length (mappedSequences c) ≡ length (suppliedPlaces c)
+  ranked-many = length-map (mapped c) _ ∙ sym (length-map (mapped c) _)
+
+  bookable : (b : Booked) → b ∈ booked → Bookable (length (suppliedPlaces c)) b
+  bookable = history-all q offset c s (Bookable (length (suppliedPlaces c)))
+      (λ way r. subst (λ n. Bookable n (readBooked offset s (mappedSequences c) way r)) ranked-many (read-bookable offset s (mappedSequences c) way r)) start (ap (λ (h : Held). h .state .settings) start-is) xs
+
+  -- what the state and the counters count
+  pub run-counts : Counts (suppliedPlaces c) booked (booksOf end)
+  run-counts =
+      subst (Counts (suppliedPlaces c) booked) (sym (after-books q offset c start xs ∙ ap (λ h. bookedAll (suppliedPlaces c) booked (booksOf h)) start-is))
+      (booked-counts (length (targets c)) (suppliedPlaces c) (places-ranked c (opening-valid q offset c lent s k begun)) booked bookable)
+
+  settings-end : end .state .settings ≡ s
+  settings-end = settings-after q offset c start xs ∙ ap (λ (h : Held). h .state .settings) start-is
+
+  -- ---- what `finish` shows
+
+  pub sheet-means : (lent′ : IndexLent) (sheet : Sheet) → finishAnswer q offset c lent′ end ≡ accepted sheet → SheetMeans c s booked sheet (end .counters)
+  sheet-means lent′ sheet e = subst (λ (x : Sheet). SheetMeans c s booked x (end .counters)) (outcome-accepted (finishRefusal q offset c lent′ end) (sheetOf end) sheet e .1) means
+    where
+      n : Counts (suppliedPlaces c) booked (booksOf end)
+      n = run-counts
+
+      right : Valid c
+      right = opening-valid q offset c lent s k begun
+
+      status : Status
+      status = runStatus (s .remap) (anyIndeterminate booked)
+
+      status-is : runStatus (end .state .settings .remap) (end .state .ledger .indeterminate) ≡ status
+      status-is = ap₂ runStatus (ap (λ (x : Settings). x .remap) settings-end) (n .indeterminate)
+
+      linear : (t : Target) → t ∈ targets c → isMapped t ≡ true
+          → targetShown (sheetOf end) (end .counters) t ≡ shown status (totalsOf (placementsOn (rankOf c (t .place)) booked) (singlesOn (rankOf c (t .place)) booked) (multiOn (rankOf c (t .place)) booked))
+      linear t m on =
+          let r = target-ranked c right t m on in
+          let at : (l : List ℕ) → getD l (t .place) 0 ≡ getD l (getD (suppliedPlaces c) (rankOf c (t .place)) 0) 0 = λ l. ap (λ p. getD l p 0) (sym (r .1)) in
+          rw (on, status-shown)
+          (ap₂ shown status-is (totals-are
+          (at (end .counters .placements) ∙ n .placements (rankOf c (t .place)) (r .0))
+          (at (end .counters .singles) ∙ n .singles (rankOf c (t .place)) (r .0))
+          (at (end .counters .multi) ∙ n .multi (rankOf c (t .place)) (r .0))))
+
+      means : SheetMeans c s booked (sheetOf end) (end .counters)
+      means =
+          record {
+            states = n .states;
+            linear = linear;
+            closed = λ t m off. rw off;
+            run = ap₂ shown status-is (totals-are (n .total-placements) (n .total-singles) (n .total-multi));
+          }
+
+  -- ---- the books agree
+
+  shown-states : (b : Booked) → b ∈ booked → b .state ∈ statesShown (s .remap)
+  shown-states = history-all q offset c s (λ b. b .state ∈ statesShown (s .remap)) (λ way r. state-shown offset s (mappedSequences c) way r) start (ap (λ (h : Held). h .state .settings) start-is) xs
+
+  start-countable : countable (booksOf (started c s)) ≡ true
+  start-countable = empty-countable (length (targets c))
+
+  end-countable : countable (booksOf end) ≡ true
+  end-countable = after-countable q offset c start (rw start-is start-countable) xs
+
+  end-reads : 3 ≤ length (booksOf end .ledger .reads)
+  end-reads = rw (after-books q offset c start xs) (omega (arith, booked-lengths (suppliedPlaces c) booked (booksOf start) .reads, ap (λ (h : Held). length (h .state .ledger .reads)) start-is))
+
+  end-balanced : balanced (rolesOf (s .mode)) (statesShown (s .remap)) (booksOf end) ≡ true
+  end-balanced =
+      counts-balanced (suppliedPlaces c) booked (booksOf end) run-counts end-countable (rolesOf (s .mode)) (statesShown (s .remap))
+      (few-roles (s .mode)) (distinct-states (s .remap)) (few-states (s .remap)) shown-states end-reads
+
+  -- `finish` makes the opening's checks, and no more can refuse it
+  pub finish-opens : (lent′ : IndexLent) → finishRefusal q offset c lent′ end ≡ openingRefusal q offset c lent′ s (end .counters)
+  unfolding finishRefusal
+  finish-opens lent′ = rw (settings-end, end-balanced) (no-more (openingRefusal q offset c lent′ s (end .counters)))
+
+  -- so it is never refused 18
+  pub never-apart : (lent′ : IndexLent) → finishRefusal q offset c lent′ end ≡ 18 → ⊥
+  never-apart lent′ e = opening-not-18 q offset c lent′ s (end .counters) (sym (finish-opens lent′) ∙ e)
+
+  -- an accepted one shows as many reads of a role, over its states, as were booked
+  pub role-shown : (lent′ : IndexLent) (sheet : Sheet) → finishAnswer q offset c lent′ end ≡ accepted sheet → (role : ℕ) → role ∈ rolesOf (sheet .mode)
+      → sum (map (λ (x : Triple). x .2) (roleShown sheet role)) ≡ readsOf role booked
+  role-shown lent′ sheet e role m =
+      let is : sheetOf end ≡ sheet = outcome-accepted (finishRefusal q offset c lent′ end) (sheetOf end) sheet e .1 in
+      subst (λ (x : Sheet). role ∈ rolesOf (x .mode) → sum (map (λ (x : Triple). x .2) (roleShown x role)) ≡ readsOf role booked) is of-end m
+    where
+      counted : (states : List ℕ) → ((x : ℕ) → x ∈ states → x < 6) → role < 3 → sum (map (λ (x : Triple). x .2) (map (λ state. (role, state, countOf (end .state .ledger .table) role state)) states)) ≡ sum (map (λ x. readsIn role x booked) states)
+      counted [] few h = refl
+      counted (x ∷ states) few h = ap₂ _+_ (run-counts .states role x h (few x (inl refl))) (counted states (λ y m. few y (inr m)) h)
+
+      of-end : role ∈ rolesOf (end .state .settings .mode) → sum (map (λ (x : Triple). x .2) (roleShown (sheetOf end) role)) ≡ readsOf role booked
+      of-end i =
+          counted (statesShown (end .state .settings .remap)) (few-states (end .state .settings .remap)) (few-roles (end .state .settings .mode) role i)
+          ∙ states-sum role (statesShown (end .state .settings .remap)) (distinct-states (end .state .settings .remap)) booked (λ b i. rw settings-end (shown-states b i))
