@@ -31,19 +31,25 @@ length-raisedAt (x ∷ xs) ns = length-raisedAt xs (raised x ns) ∙ length-rais
 
 -- ---- each number
 
+pub raised-here : (at : ℕ) (ns : List ℕ) (i : ℕ) → i < length ns → i ≡ at → getD (raised at ns) i 0 ≡ suc (getD ns i 0)
+raised-here at ns i h e = rw (← e) (getD-set-same ns i (suc (getD ns i 0)) 0 h)
+
+pub raised-elsewhere : (at : ℕ) (ns : List ℕ) (i : ℕ) → (i ≡ at → ⊥) → getD (raised at ns) i 0 ≡ getD ns i 0
+raised-elsewhere at ns i h = getD-set-other ns at i (suc (getD ns at 0)) 0 h
+
 -- it is raised as often as its place is named
 pub raisedAt-times : (xs ns : List ℕ) (i : ℕ) → i < length ns → getD (raisedAt xs ns) i 0 ≡ getD ns i 0 + times i xs
 raisedAt-times [] ns i h = omega arith
 raisedAt-times (x ∷ xs) ns i h = raisedAt-times xs (raised x ns) i (omega (arith, length-raised x ns)) ∙ go (eqb i x) refl
   where
     go : (b : Bool) → eqb i x ≡ b → getD (raised x ns) i 0 + times i xs ≡ getD ns i 0 + length (consIf b x (filter (eqb i) xs))
-    go true e = rw (← eqb-true i x e) (omega (arith, getD-set-same ns i (suc (getD ns i 0)) 0 h))
-    go false e = omega (arith, getD-set-other ns x i (suc (getD ns x 0)) 0 (eqb-false i x e))
+    go true e = omega (arith, raised-here x ns i h (eqb-true i x e))
+    go false e = omega (arith, raised-elsewhere x ns i (eqb-false i x e))
 
 -- it stays where its place is not named
 pub raisedAt-other : (xs ns : List ℕ) (i : ℕ) → (i ∈ xs → ⊥) → getD (raisedAt xs ns) i 0 ≡ getD ns i 0
 raisedAt-other [] ns i h = refl
-raisedAt-other (x ∷ xs) ns i h = raisedAt-other xs (raised x ns) i (λ m. h (inr m)) ∙ getD-set-other ns x i (suc (getD ns x 0)) 0 (λ e. h (inl e))
+raisedAt-other (x ∷ xs) ns i h = raisedAt-other xs (raised x ns) i (λ m. h (inr m)) ∙ raised-elsewhere x ns i (λ e. h (inl e))
 
 -- ---- their sum
 
