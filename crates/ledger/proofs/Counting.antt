@@ -1,6 +1,6 @@
 -- Books that start empty count the reads that were booked.
 -- Assumes nothing.
-use mathlib.Core.Path.{_≡_, refl, ap, _∙_}
+use mathlib.Core.Path.{_≡_, refl, _∙_}
 use mathlib.Core.List.{List}
 use Prim.Native.Nat.{ℕ, zero, suc}
 use native.Mathlib.Omega.{arith}
@@ -21,6 +21,7 @@ getD-zeros zero i = refl
 getD-zeros (suc n) zero = refl
 getD-zeros (suc n) (suc i) = getD-zeros n i
 
+-- empty books have their size
 pub empty-sized : (n : ℕ) → Sized n (emptyBooks n)
 empty-sized n = record { table = refl; reads = refl; placements = length-replicate n 0; singles = length-replicate n 0; multi = length-replicate n 0 }
 

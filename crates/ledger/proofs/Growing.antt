@@ -1,15 +1,15 @@
 -- Books that grew by some reads: by none, by one, by reads in two parts, by all that were booked.
 -- Assumes nothing.
-use mathlib.Core.Path.{_≡_, refl, sym, ap, ap₂, _∙_}
-use mathlib.Core.Bool.{Bool, true, false, not, _&&_, _||_}
+use mathlib.Core.Path.{_≡_, refl, sym, ap, _∙_}
+use mathlib.Core.Bool.{Bool, true, false, _&&_, _||_}
 use mathlib.Core.Logic.{inl, inr}
 use mathlib.Core.List.{List, [], _∷_, _++_, append-nil, append-assoc}
-use Prim.Native.Nat.{ℕ, suc, _+_, _*_, _<_}
+use Prim.Native.Nat.{ℕ, suc, _+_, _<_}
 use native.Mathlib.Omega.{arith}
 use lib.ListN.{length, getD, length-append}
 use lib.Dec.{eqb, ltb}
 use borrow.Author.Tests.{eqb-true, eqb-false}
-use Rattle.lists.specs.Filter.{filter, every}
+use Rattle.lists.specs.Filter.{filter}
 use Rattle.lists.specs.Member.{_∈_}
 use Rattle.lists.proofs.Cases.{by-test}
 use Rattle.lists.proofs.Member.{getD-∈}
@@ -20,7 +20,7 @@ use Rattle.ledger.specs.Balance.{sum, countOf}
 use Rattle.ledger.specs.Counting.{readsIn, readsOf, anyIndeterminate, groupsOn, allGroups, liesOn, placementsOn, singlesOn, multiOn, Bookable, Ranked}
 use Rattle.ledger.proofs.Raising.{raised-here, raised-elsewhere, raisedAt-times, raisedAt-other, sum-raisedAt}
 use Rattle.ledger.proofs.Targets.{targets-times, single-times, multi-times, targets-∈, single-∈, multi-∈}
-use Rattle.ledger.proofs.Booking.{SameLengths, one-lengths}
+use Rattle.ledger.proofs.Booking.{one-lengths}
 
 -- books of 18 counts, 3 roles and n targets
 pub record Sized (n : ℕ) (books : Books) : Type 0 where
@@ -80,6 +80,7 @@ module _ (n : ℕ) (ranked : List ℕ) (r : Ranked n ranked) (b : Booked) (k : B
       (λ e. rw e (omega (arith, raised-here (b .role) (books .ledger .reads) role (omega (arith, s .reads)) (sym (eqb-true (b .role) role e)))))
       (λ e. rw e (omega (arith, raised-elsewhere (b .role) (books .ledger .reads) role (λ g. eqb-false (b .role) role e (sym g)))))
 
+  -- a read that was booked is added
   pub one-grown : Grown ranked (b ∷ []) books (bookedOne ranked b books)
   one-grown =
       record {
@@ -115,6 +116,7 @@ module _ (n : ℕ) (ranked : List ℕ) (r : Ranked n ranked) (b : Booked) (k : B
 
 -- ---- by reads in two parts
 
+-- those that pass in two parts
 pub length-filter-append : {A : Type 0} (p : A → Bool) (xs ys : List A) → length (filter p (xs ++ ys)) ≡ length (filter p xs) + length (filter p ys)
 length-filter-append p xs ys = ap length (filter-append p xs ys) ∙ length-append (filter p xs) (filter p ys)
 
@@ -130,6 +132,7 @@ indeterminate-append [] ds = refl
 indeterminate-append (b ∷ bs) ds = by-test (eqb (b .state) 2) (λ e. rw e) (λ e. rw e (indeterminate-append bs ds))
 
 module _ (ranked : List ℕ) (bs ds : List Booked) (books between after : Books) where
+  -- by the first, then by the others
   pub grown-append : Grown ranked bs books between → Grown ranked ds between after → Grown ranked (bs ++ ds) books after
   grown-append f g =
       record {

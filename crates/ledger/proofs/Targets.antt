@@ -3,12 +3,12 @@
 use mathlib.Core.Path.{_≡_, refl, sym, ap, _∙_}
 use mathlib.Core.Bool.{Bool, true, false, not, cond, _&&_}
 use mathlib.Core.Logic.{inl, inr}
-use mathlib.Core.List.{List, [], _∷_, map}
+use mathlib.Core.List.{List, [], _∷_}
 use Prim.Native.Nat.{ℕ, zero, suc, _<_, _≤_}
 use native.Mathlib.Omega.{arith}
 use lib.ListN.{length, getD, length-map}
 use lib.Dec.{eqb, ltb}
-use borrow.Author.Tests.{eqb-true, eqb-false, eq-eqb, ne-eqb, lt-ltb}
+use borrow.Author.Tests.{eqb-true, eq-eqb, ne-eqb, lt-ltb}
 use Rattle.lists.specs.Filter.{filter, consIf, every}
 use Rattle.lists.specs.Member.{_∈_, Distinct}
 use Rattle.lists.proofs.Cases.{by-test, same-test}
@@ -49,6 +49,7 @@ distinct-times t (x ∷ xs) = go (eqb t x) refl (isIn x xs) (isIn-times x xs) (d
     go false e true f ih = ih
     go false e false f ih = rw e ih
 
+-- and all stand in the list
 pub distinct-∈ : (t : ℕ) (xs : List ℕ) → t ∈ distinct xs → t ∈ xs
 distinct-∈ t (x ∷ xs) m = go (isIn x xs) m (λ k. distinct-∈ t xs k)
   where
@@ -103,6 +104,7 @@ module _ (ranked : List ℕ) (d : Distinct ranked) (rank : ℕ) (h : rank < leng
 
 -- ---- each target has a rank
 
+-- each target of ranked groups
 pub targets-∈ : (ranked : List ℕ) (gs : List Place) → ((p : Place) → p ∈ gs → p .rank < length ranked) → (t : ℕ) → t ∈ targetsOf ranked gs → t ∈ ranked
 targets-∈ ranked gs k t m = let r = map-∈ (λ (p : Place). getD ranked (p .rank) 0) t gs m in rw (r .2) (getD-∈ 0 ranked (r .0 .rank) (k (r .0) (r .1)))
 
