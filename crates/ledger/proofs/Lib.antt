@@ -1,0 +1,6 @@
+pub mod Raising
+pub mod Targets
+pub mod Booking
+pub mod Growing
+pub mod Counting
+pub mod Balancing

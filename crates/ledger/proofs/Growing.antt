@@ -1,0 +1,193 @@
+-- Books that grew by some reads: by none, by one, by reads in two parts, by all that were booked.
+-- Assumes nothing.
+use mathlib.Core.Path.{_≡_, refl, sym, ap, _∙_}
+use mathlib.Core.Bool.{Bool, true, false, _&&_, _||_}
+use mathlib.Core.Logic.{inl, inr}
+use mathlib.Core.List.{List, [], _∷_, _++_, append-nil, append-assoc}
+use Prim.Native.Nat.{ℕ, suc, _+_, _<_}
+use native.Mathlib.Omega.{arith}
+use lib.ListN.{length, getD, length-append}
+use lib.Dec.{eqb, ltb}
+use borrow.Author.Tests.{eqb-true, eqb-false}
+use Rattle.lists.specs.Filter.{filter}
+use Rattle.lists.specs.Member.{_∈_}
+use Rattle.lists.proofs.Cases.{by-test}
+use Rattle.lists.proofs.Member.{getD-∈}
+use Rattle.lists.proofs.Filter.{filter-append}
+use Rattle.places.specs.Place.{Place}
+use Rattle.ledger.specs.Booking.{Booked, Books, raised, cell, targetsOf, singleTargets, multiTargets, bookedOne, bookedAll}
+use Rattle.ledger.specs.Balance.{sum, countOf}
+use Rattle.ledger.specs.Counting.{readsIn, readsOf, anyIndeterminate, groupsOn, allGroups, liesOn, placementsOn, singlesOn, multiOn, Bookable, Ranked}
+use Rattle.ledger.proofs.Raising.{raised-here, raised-elsewhere, raisedAt-times, raisedAt-other, sum-raisedAt}
+use Rattle.ledger.proofs.Targets.{targets-times, single-times, multi-times, targets-∈, single-∈, multi-∈}
+use Rattle.ledger.proofs.Booking.{one-lengths}
+
+-- books of 18 counts, 3 roles and n targets
+pub record Sized (n : ℕ) (books : Books) : Type 0 where
+  pub table : length (books .ledger .table) ≡ 18
+  pub reads : length (books .ledger .reads) ≡ 3
+  pub placements : length (books .counters .placements) ≡ n
+  pub singles : length (books .counters .singles) ≡ n
+  pub multi : length (books .counters .multi) ≡ n
+
+-- what the reads add to each number
+pub record Grown (ranked : List ℕ) (bs : List Booked) (books after : Books) : Type 0 where
+  pub states : (role state : ℕ) → role < 3 → state < 6 → countOf (after .ledger .table) role state ≡ countOf (books .ledger .table) role state + readsIn role state bs
+  pub reads : (role : ℕ) → role < 3 → getD (after .ledger .reads) role 0 ≡ getD (books .ledger .reads) role 0 + readsOf role bs
+  pub placements : (rank : ℕ) → rank < length ranked → getD (after .counters .placements) (getD ranked rank 0) 0 ≡ getD (books .counters .placements) (getD ranked rank 0) 0 + placementsOn rank bs
+  pub singles : (rank : ℕ) → rank < length ranked → getD (after .counters .singles) (getD ranked rank 0) 0 ≡ getD (books .counters .singles) (getD ranked rank 0) 0 + singlesOn rank bs
+  pub multi : (rank : ℕ) → rank < length ranked → getD (after .counters .multi) (getD ranked rank 0) 0 ≡ getD (books .counters .multi) (getD ranked rank 0) 0 + multiOn rank bs
+  pub other-placements : (t : ℕ) → (t ∈ ranked → ⊥) → getD (after .counters .placements) t 0 ≡ getD (books .counters .placements) t 0
+  pub other-singles : (t : ℕ) → (t ∈ ranked → ⊥) → getD (after .counters .singles) t 0 ≡ getD (books .counters .singles) t 0
+  pub other-multi : (t : ℕ) → (t ∈ ranked → ⊥) → getD (after .counters .multi) t 0 ≡ getD (books .counters .multi) t 0
+  pub total-placements : after .ledger .placements + sum (books .counters .placements) ≡ books .ledger .placements + sum (after .counters .placements)
+  pub total-singles : after .ledger .singles + sum (books .counters .singles) ≡ books .ledger .singles + sum (after .counters .singles)
+  pub total-multi : after .ledger .multi + sum (books .counters .multi) ≡ books .ledger .multi + sum (after .counters .multi)
+  pub indeterminate : after .ledger .indeterminate ≡ (books .ledger .indeterminate || anyIndeterminate bs)
+
+-- ---- by one read
+
+module _ (n : ℕ) (ranked : List ℕ) (r : Ranked n ranked) (b : Booked) (k : Bookable (length ranked) b) (books : Books) (s : Sized n books) where
+  -- the target of a rank is one of the n, and so is each target of the read
+  of-rank : (rank : ℕ) → rank < length ranked → getD ranked rank 0 < n
+  of-rank rank h = r .inside (getD ranked rank 0) (getD-∈ 0 ranked rank h)
+
+  of-read : (t : ℕ) → t ∈ targetsOf ranked (b .groups) → t ∈ ranked
+  of-read = targets-∈ ranked (b .groups) (k .ranked)
+
+  of-single : (t : ℕ) → t ∈ singleTargets (targetsOf ranked (b .groups)) → t ∈ ranked
+  of-single t m = of-read t (single-∈ t (targetsOf ranked (b .groups)) m)
+
+  of-multi : (t : ℕ) → t ∈ multiTargets (targetsOf ranked (b .groups)) → t ∈ ranked
+  of-multi t m = of-read t (multi-∈ t (targetsOf ranked (b .groups)) m)
+
+  one-states : (role state : ℕ) → role < 3 → state < 6 → countOf (bookedOne ranked b books .ledger .table) role state ≡ countOf (books .ledger .table) role state + readsIn role state (b ∷ [])
+  one-states role state hr hs =
+      by-test (eqb (b .role) role)
+      (λ e. by-test (eqb (b .state) state) (λ f. rw (e, f) (omega (arith, here e f))) (λ f. rw (e, f) (omega (arith, elsewhere (λ g. omega (arith, k .state, eqb-false (b .state) state f))))))
+      (λ e. rw e (omega (arith, elsewhere (λ g. omega (arith, k .state, eqb-false (b .role) role e)))))
+    where
+      here : eqb (b .role) role ≡ true → eqb (b .state) state ≡ true → getD (raised (cell (b .role) (b .state)) (books .ledger .table)) (cell role state) 0 ≡ suc (getD (books .ledger .table) (cell role state) 0)
+      here e f =
+          raised-here (cell (b .role) (b .state)) (books .ledger .table) (cell role state) (omega (arith, s .table)) (omega (arith, eqb-true (b .role) role e, eqb-true (b .state) state f))
+
+      elsewhere : (cell role state ≡ cell (b .role) (b .state) → ⊥) → getD (raised (cell (b .role) (b .state)) (books .ledger .table)) (cell role state) 0 ≡ getD (books .ledger .table) (cell role state) 0
+      elsewhere = raised-elsewhere (cell (b .role) (b .state)) (books .ledger .table) (cell role state)
+
+  one-reads : (role : ℕ) → role < 3 → getD (bookedOne ranked b books .ledger .reads) role 0 ≡ getD (books .ledger .reads) role 0 + readsOf role (b ∷ [])
+  one-reads role hr =
+      by-test (eqb (b .role) role)
+      (λ e. rw e (omega (arith, raised-here (b .role) (books .ledger .reads) role (omega (arith, s .reads)) (sym (eqb-true (b .role) role e)))))
+      (λ e. rw e (omega (arith, raised-elsewhere (b .role) (books .ledger .reads) role (λ g. eqb-false (b .role) role e (sym g)))))
+
+  -- a read that was booked is added
+  pub one-grown : Grown ranked (b ∷ []) books (bookedOne ranked b books)
+  one-grown =
+      record {
+        states = one-states;
+        reads = one-reads;
+        placements = λ rank h.
+            omega (
+              arith,
+              raisedAt-times (targetsOf ranked (b .groups)) (books .counters .placements) (getD ranked rank 0) (omega (arith, of-rank rank h, s .placements)),
+              targets-times ranked (r .distinct) rank h (b .groups) (k .ranked),
+              ap (groupsOn rank) (append-nil (b .groups)),
+            );
+        singles = λ rank h.
+            omega (
+              arith,
+              raisedAt-times (singleTargets (targetsOf ranked (b .groups))) (books .counters .singles) (getD ranked rank 0) (omega (arith, of-rank rank h, s .singles)),
+              single-times ranked (r .distinct) rank h b (k .ranked),
+            );
+        multi = λ rank h.
+            omega (
+              arith,
+              raisedAt-times (multiTargets (targetsOf ranked (b .groups))) (books .counters .multi) (getD ranked rank 0) (omega (arith, of-rank rank h, s .multi)),
+              multi-times ranked (r .distinct) rank h b (k .ranked),
+            );
+        other-placements = λ t h. omega (arith, raisedAt-other (targetsOf ranked (b .groups)) (books .counters .placements) t (λ m. h (of-read t m)));
+        other-singles = λ t h. omega (arith, raisedAt-other (singleTargets (targetsOf ranked (b .groups))) (books .counters .singles) t (λ m. h (of-single t m)));
+        other-multi = λ t h. omega (arith, raisedAt-other (multiTargets (targetsOf ranked (b .groups))) (books .counters .multi) t (λ m. h (of-multi t m)));
+        total-placements = omega (arith, sum-raisedAt (targetsOf ranked (b .groups)) (books .counters .placements) (λ t m. omega (arith, s .placements, r .inside t (of-read t m))));
+        total-singles = omega (arith, sum-raisedAt (singleTargets (targetsOf ranked (b .groups))) (books .counters .singles) (λ t m. omega (arith, s .singles, r .inside t (of-single t m))));
+        total-multi = omega (arith, sum-raisedAt (multiTargets (targetsOf ranked (b .groups))) (books .counters .multi) (λ t m. omega (arith, s .multi, r .inside t (of-multi t m))));
+        indeterminate = by-test (books .ledger .indeterminate) (λ e. rw e) (λ e. by-test (eqb (b .state) 2) (λ f. rw (e, f)) (λ f. rw (e, f)));
+      }
+
+-- ---- by reads in two parts
+
+-- those that pass in two parts
+pub length-filter-append : {A : Type 0} (p : A → Bool) (xs ys : List A) → length (filter p (xs ++ ys)) ≡ length (filter p xs) + length (filter p ys)
+length-filter-append p xs ys = ap length (filter-append p xs ys) ∙ length-append (filter p xs) (filter p ys)
+
+groups-append : (bs ds : List Booked) → allGroups (bs ++ ds) ≡ allGroups bs ++ allGroups ds
+groups-append [] ds = refl
+groups-append (b ∷ bs) ds = ap (λ gs. b .groups ++ gs) (groups-append bs ds) ∙ sym (append-assoc (b .groups) (allGroups bs) (allGroups ds))
+
+placements-append : (rank : ℕ) (bs ds : List Booked) → placementsOn rank (bs ++ ds) ≡ placementsOn rank bs + placementsOn rank ds
+placements-append rank bs ds = ap (groupsOn rank) (groups-append bs ds) ∙ length-filter-append (λ (p : Place). eqb (p .rank) rank) (allGroups bs) (allGroups ds)
+
+indeterminate-append : (bs ds : List Booked) → anyIndeterminate (bs ++ ds) ≡ (anyIndeterminate bs || anyIndeterminate ds)
+indeterminate-append [] ds = refl
+indeterminate-append (b ∷ bs) ds = by-test (eqb (b .state) 2) (λ e. rw e) (λ e. rw e (indeterminate-append bs ds))
+
+module _ (ranked : List ℕ) (bs ds : List Booked) (books between after : Books) where
+  -- by the first, then by the others
+  pub grown-append : Grown ranked bs books between → Grown ranked ds between after → Grown ranked (bs ++ ds) books after
+  grown-append f g =
+      record {
+        states = λ role state hr hs. omega (arith, f .states role state hr hs, g .states role state hr hs, length-filter-append (λ (b : Booked). eqb (b .role) role && eqb (b .state) state) bs ds);
+        reads = λ role hr. omega (arith, f .reads role hr, g .reads role hr, length-filter-append (λ (b : Booked). eqb (b .role) role) bs ds);
+        placements = λ rank h. omega (arith, f .placements rank h, g .placements rank h, placements-append rank bs ds);
+        singles = λ rank h. omega (arith, f .singles rank h, g .singles rank h, length-filter-append (λ (b : Booked). eqb (length (b .groups)) 1 && liesOn rank b) bs ds);
+        multi = λ rank h. omega (arith, f .multi rank h, g .multi rank h, length-filter-append (λ (b : Booked). ltb 1 (length (b .groups)) && liesOn rank b) bs ds);
+        other-placements = λ t h. omega (arith, f .other-placements t h, g .other-placements t h);
+        other-singles = λ t h. omega (arith, f .other-singles t h, g .other-singles t h);
+        other-multi = λ t h. omega (arith, f .other-multi t h, g .other-multi t h);
+        total-placements = omega (arith, f .total-placements, g .total-placements);
+        total-singles = omega (arith, f .total-singles, g .total-singles);
+        total-multi = omega (arith, f .total-multi, g .total-multi);
+        indeterminate = g .indeterminate ∙ ap (λ t. t || anyIndeterminate ds) (f .indeterminate)
+            ∙ or-assoc (books .ledger .indeterminate) (anyIndeterminate bs) (anyIndeterminate ds)
+            ∙ ap (λ t. books .ledger .indeterminate || t) (sym (indeterminate-append bs ds));
+      }
+    where
+      or-assoc : (x y z : Bool) → ((x || y) || z) ≡ (x || (y || z))
+      or-assoc true y z = refl
+      or-assoc false y z = refl
+
+-- ---- by all
+
+one-sized : (n : ℕ) (ranked : List ℕ) (b : Booked) (books : Books) → Sized n books → Sized n (bookedOne ranked b books)
+one-sized n ranked b books s =
+    let l = one-lengths ranked b books in
+    record {
+      table = l .table ∙ s .table;
+      reads = l .reads ∙ s .reads;
+      placements = l .placements ∙ s .placements;
+      singles = l .singles ∙ s .singles;
+      multi = l .multi ∙ s .multi;
+    }
+
+-- booking adds each read, from any books on
+pub booked-grown : (n : ℕ) (ranked : List ℕ) → Ranked n ranked → (bs : List Booked) → ((b : Booked) → b ∈ bs → Bookable (length ranked) b) → (books : Books) → Sized n books → Grown ranked bs books (bookedAll ranked bs books)
+booked-grown n ranked r [] k books s =
+    record {
+      states = λ role state hr hs. omega arith;
+      reads = λ role hr. omega arith;
+      placements = λ rank h. omega arith;
+      singles = λ rank h. omega arith;
+      multi = λ rank h. omega arith;
+      other-placements = λ t h. refl;
+      other-singles = λ t h. refl;
+      other-multi = λ t h. refl;
+      total-placements = omega arith;
+      total-singles = omega arith;
+      total-multi = omega arith;
+      indeterminate = by-test (books .ledger .indeterminate) (λ e. rw e) (λ e. rw e);
+    }
+booked-grown n ranked r (b ∷ bs) k books s =
+    let one = bookedOne ranked b books in
+    grown-append ranked (b ∷ []) bs books one (bookedAll ranked bs one)
+    (one-grown n ranked r b (k b (inl refl)) books s)
+    (booked-grown n ranked r bs (λ d m. k d (inr m)) one (one-sized n ranked b books s))
