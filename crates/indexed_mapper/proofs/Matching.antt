@@ -44,7 +44,7 @@ module _ (c : Catalogue) (valid : Valid c) where
       (λ t u m k h. ap₂ (λ x y. nameBefore x y) (sym (named-by-place c t (mapped-∈ c t m .0))) (sym (named-by-place c u (mapped-∈ c u k .0))) ∙ h)
       (mapped-ascending c (valid .distinct))
 
-  rank-is : (r : ℕ) → r < length (mapped c) → rankOf c (getD (suppliedPlaces c) r 0) ≡ r
+  pub rank-is : (r : ℕ) → r < length (mapped c) → rankOf c (getD (suppliedPlaces c) r 0) ≡ r
   rank-is r h = place-at (placeBefore (names c)) (place-order (names c)) (suppliedPlaces c) places-ascend r (omega (arith, length-map (mapped c) (λ (t : Target). t .place)))
 
   none : Target
@@ -56,7 +56,7 @@ module _ (c : Catalogue) (valid : Valid c) where
   bases-of-rank : (r : ℕ) → r < length (mapped c) → getD (mappedSequences c) r [] ≡ getD (mapped c) r none .bases
   bases-of-rank r h = getD-map (λ (t : Target). t .bases) none [] (mapped c) r h
 
-  as-many : length (mappedSequences c) ≡ length (mapped c)
+  pub as-many : length (mappedSequences c) ≡ length (mapped c)
   as-many = length-map (mapped c) (λ (t : Target). t .bases)
 
   -- ---- places as they are supplied
