@@ -2,3 +2,5 @@ pub mod Catalogues
 pub mod Booking
 pub mod Running
 pub mod Sheets
+pub mod Placing
+pub mod Turned

@@ -58,10 +58,10 @@ module _ (limit : ℕ) (gs : List Place) (w : MappingWork) where
   few ne = by-test (ltb limit (length gs)) (λ t. absurd (ne (rw t))) (λ t. t)
 
   -- the number of groups is that of the listed ones, and the work is that of the search
-  row-groups : mappedRow limit gs w .groups ≡ length (listed limit gs)
+  pub row-groups : mappedRow limit gs w .groups ≡ length (listed limit gs)
   row-groups = by-test (ltb limit (length gs)) (λ t. rw t) (λ t. rw t)
 
-  row-work : mappedRow limit gs w .work ≡ w
+  pub row-work : mappedRow limit gs w .work ≡ w
   row-work = by-test (ltb limit (length gs)) (λ t. rw t) (λ t. rw t)
 
 -- ---- one answer: demand 2 for the mapper
@@ -142,10 +142,10 @@ searches-agree q some ss ranked read limit r r′ b b′ d d′ s s′ a a′ e 
 -- ---- a read turned round
 
 module _ (ss : List (List ℕ)) (read : List ℕ) where
-  number-turned : length (groups ss (reverseComplement read)) ≡ length (groups ss read)
+  pub number-turned : length (groups ss (reverseComplement read)) ≡ length (groups ss read)
   number-turned = rw (groups-turned, length-sort, length-map)
 
-  listed-turned : (limit : ℕ) → listed limit (groups ss (reverseComplement read)) ≡ turnedGroups (listed limit (groups ss read))
+  pub listed-turned : (limit : ℕ) → listed limit (groups ss (reverseComplement read)) ≡ turnedGroups (listed limit (groups ss read))
   listed-turned limit = rw number-turned (by-test (ltb limit (length (groups ss read))) (λ t. rw t) (λ t. rw t (groups-turned ss read)))
 
 -- neither is refused: a search, in either way, of the read turned round has the same state and groups with their strands exchanged

@@ -56,7 +56,7 @@ module _ (c : Catalogue) (valid : Valid c) where
   bases-of-rank : (r : ℕ) → r < length (mapped c) → getD (mappedSequences c) r [] ≡ getD (mapped c) r none .bases
   bases-of-rank r h = getD-map (λ (t : Target). t .bases) none [] (mapped c) r h
 
-  as-many : length (mappedSequences c) ≡ length (mapped c)
+  pub as-many : length (mappedSequences c) ≡ length (mapped c)
   as-many = length-map (mapped c) (λ (t : Target). t .bases)
 
   -- ---- places as they are supplied

@@ -33,7 +33,7 @@ after-length b zero xs f = length-placed 0 xs (cleared b) (omega (arith, f refl,
 after-length b (suc n) xs f = by-test (eqb (suc n) 10) (λ e. rw e (length-cleared b)) (λ e. rw e refl)
 
 -- where there is no refusal the listed groups have room
-listed-room : (entries limit : ℕ) (gs : List Place) → roomRefusal entries limit (length gs) ≡ 0 → length (listed limit gs) ≤ entries
+pub listed-room : (entries limit : ℕ) (gs : List Place) → roomRefusal entries limit (length gs) ≡ 0 → length (listed limit gs) ≤ entries
 listed-room entries limit gs z =
     by-test (ltb limit (length gs))
     (λ e. rw e (omega arith))
