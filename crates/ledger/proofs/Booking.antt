@@ -5,7 +5,7 @@ use mathlib.Core.List.{List, [], _∷_, _++_}
 use Prim.Native.Nat.{ℕ}
 use native.Mathlib.Omega.{arith}
 use lib.ListN.{length, length-set}
-use Rattle.ledger.specs.Booking.{Booked, Books, bookedOne, bookedAll}
+use Rattle.ledger.specs.Booking.{Booked, Books, targetsOf, singleTargets, multiTargets, bookedOne, bookedAll}
 use Rattle.ledger.proofs.Raising.{length-raisedAt}
 
 -- the first reads, then the others
@@ -27,9 +27,9 @@ one-lengths ranked b books =
     record {
       table = simp length-set;
       reads = simp length-set;
-      placements = simp length-raisedAt;
-      singles = simp length-raisedAt;
-      multi = simp length-raisedAt;
+      placements = omega (arith, length-raisedAt (targetsOf ranked (b .groups)) (books .counters .placements));
+      singles = omega (arith, length-raisedAt (singleTargets (targetsOf ranked (b .groups))) (books .counters .singles));
+      multi = omega (arith, length-raisedAt (multiTargets (targetsOf ranked (b .groups))) (books .counters .multi));
     }
 
 -- of reads

@@ -8,10 +8,10 @@ use Prim.Native.Nat.{ℕ, suc, _+_, _<_}
 use native.Mathlib.Omega.{arith}
 use lib.ListN.{length, getD, length-append}
 use lib.Dec.{eqb, ltb}
-use borrow.Author.Tests.{eqb-true, eqb-false}
-use Rattle.lists.specs.Filter.{filter}
+use borrow.Author.Tests.{eqb-true, eq-eqb}
+use Rattle.lists.specs.Filter.{filter, consIf}
 use Rattle.lists.specs.Member.{_∈_}
-use Rattle.lists.proofs.Cases.{by-test}
+use Rattle.lists.proofs.Cases.{by-test, clash, and-true}
 use Rattle.lists.proofs.Member.{getD-∈}
 use Rattle.lists.proofs.Filter.{filter-append}
 use Rattle.places.specs.Place.{Place}
@@ -47,6 +47,11 @@ pub record Grown (ranked : List ℕ) (bs : List Booked) (books after : Books) : 
 
 -- ---- by one read
 
+-- a number that is raised where a test passes, and only there
+added : (at : ℕ) (ns : List ℕ) (i : ℕ) (b : Booked) (c : Bool) → i < length ns → (c ≡ true → i ≡ at) → (i ≡ at → c ≡ true) → getD (raised at ns) i 0 ≡ getD ns i 0 + length (consIf c b [])
+added at ns i b true h f g = omega (arith, raised-here at ns i h (f refl))
+added at ns i b false h f g = omega (arith, raised-elsewhere at ns i (λ e. clash (g e) refl))
+
 module _ (n : ℕ) (ranked : List ℕ) (r : Ranked n ranked) (b : Booked) (k : Bookable (length ranked) b) (books : Books) (s : Sized n books) where
   -- the target of a rank is one of the n, and so is each target of the read
   of-rank : (rank : ℕ) → rank < length ranked → getD ranked rank 0 < n
@@ -63,22 +68,13 @@ module _ (n : ℕ) (ranked : List ℕ) (r : Ranked n ranked) (b : Booked) (k : B
 
   one-states : (role state : ℕ) → role < 3 → state < 6 → countOf (bookedOne ranked b books .ledger .table) role state ≡ countOf (books .ledger .table) role state + readsIn role state (b ∷ [])
   one-states role state hr hs =
-      by-test (eqb (b .role) role)
-      (λ e. by-test (eqb (b .state) state) (λ f. rw (e, f) (omega (arith, here e f))) (λ f. rw (e, f) (omega (arith, elsewhere (λ g. omega (arith, k .state, eqb-false (b .state) state f))))))
-      (λ e. rw e (omega (arith, elsewhere (λ g. omega (arith, k .state, eqb-false (b .role) role e)))))
-    where
-      here : eqb (b .role) role ≡ true → eqb (b .state) state ≡ true → getD (raised (cell (b .role) (b .state)) (books .ledger .table)) (cell role state) 0 ≡ suc (getD (books .ledger .table) (cell role state) 0)
-      here e f =
-          raised-here (cell (b .role) (b .state)) (books .ledger .table) (cell role state) (omega (arith, s .table)) (omega (arith, eqb-true (b .role) role e, eqb-true (b .state) state f))
-
-      elsewhere : (cell role state ≡ cell (b .role) (b .state) → ⊥) → getD (raised (cell (b .role) (b .state)) (books .ledger .table)) (cell role state) 0 ≡ getD (books .ledger .table) (cell role state) 0
-      elsewhere = raised-elsewhere (cell (b .role) (b .state)) (books .ledger .table) (cell role state)
+      added _ (books .ledger .table) (cell role state) b (eqb (b .role) role && eqb (b .state) state) (omega (arith, s .table))
+      (λ e. let f = and-true (eqb (b .role) role) (eqb (b .state) state) e in omega (arith, eqb-true (b .role) role (f .0), eqb-true (b .state) state (f .1)))
+      (λ e. rw (eq-eqb (b .role) role (omega (arith, k .state)), eq-eqb (b .state) state (omega (arith, k .state))))
 
   one-reads : (role : ℕ) → role < 3 → getD (bookedOne ranked b books .ledger .reads) role 0 ≡ getD (books .ledger .reads) role 0 + readsOf role (b ∷ [])
   one-reads role hr =
-      by-test (eqb (b .role) role)
-      (λ e. rw e (omega (arith, raised-here (b .role) (books .ledger .reads) role (omega (arith, s .reads)) (sym (eqb-true (b .role) role e)))))
-      (λ e. rw e (omega (arith, raised-elsewhere (b .role) (books .ledger .reads) role (λ g. eqb-false (b .role) role e (sym g)))))
+      added _ (books .ledger .reads) role b (eqb (b .role) role) (omega (arith, s .reads)) (λ e. omega (arith, eqb-true (b .role) role e)) (λ e. eq-eqb (b .role) role (omega arith))
 
   -- a read that was booked is added
   pub one-grown : Grown ranked (b ∷ []) books (bookedOne ranked b books)
