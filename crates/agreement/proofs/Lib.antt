@@ -4,3 +4,5 @@ pub mod Running
 pub mod Sheets
 pub mod Placing
 pub mod Turned
+pub mod Listing
+pub mod Demands

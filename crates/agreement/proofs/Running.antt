@@ -8,18 +8,15 @@ use native.Mathlib.Omega.{arith}
 use lib.ListN.{length, replicate}
 use lib.Dec.{leb}
 use Rattle.lists.specs.Filter.{every}
-use Rattle.promises.specs.Refusal.{unless, _orElse_}
-use Rattle.promises.proofs.Refusing.{none-second, passed}
 use Rattle.catalogue.specs.Catalogue.{Catalogue, targets, suppliedPlaces}
-use Rattle.index.specs.Index.{mappedSequences}
 use Rattle.scan.specs.Entries.{entryCount}
 use Rattle.ledger.specs.Booking.{Booked, Books, bookedAll, emptyLedger, emptyCounters, maxCounter, kept, countable}
 use Rattle.ledger.proofs.Booking.{booked-append}
 use Rattle.audit.specs.declared.settings.Settings.{Settings}
 use Rattle.audit.specs.Settings.{Held, booksOf}
 use Rattle.audit.specs.Opening.{started, openingRefusal}
-use Rattle.audit.specs.Observing.{readRefusal, readRoom}
-use Rattle.audit.specs.Fragment.{Fragment, inOrder, rolesRight, firstOf, shareOf, fragmentRefusal, fragmentBooked, fragmentBooks, heldAfter}
+use Rattle.audit.specs.Fragment.{Fragment, fragmentRefusal, fragmentBooked, heldAfter}
+use Rattle.audit.proofs.Checking.{fragment-checked}
 use Rattle.agreement.specs.Meaning.{CanBeLeftOut}
 use Rattle.audit.specs.Run.{Call, Answer, ifAccepted, answerTo, next, books, answers, after, history}
 
@@ -28,19 +25,6 @@ use Rattle.audit.specs.Run.{Call, Answer, ifAccepted, answerTo, next, books, an
 module _ (q offset : ℕ) (c : Catalogue) (h : Held) (x : Call) where
   abbrev refusal : ℕ
   refusal = fragmentRefusal q offset c (x .lent) h (x .fragment) (entryCount (x .entries))
-
-  -- an accepted fragment passed the last of its checks
-  accepted-countable : refusal ≡ 0 → countable (fragmentBooks q offset c (x .lent) h (x .fragment)) ≡ true
-  unfolding fragmentRefusal
-  accepted-countable e =
-      let f = x .fragment in
-      let s : Settings = h .state .settings in
-      let a = none-second (openingRefusal q offset c (x .lent) s (h .counters)) _ e in
-      let b = none-second (unless (inOrder (h .state .last) (f .ordinal)) 12) _ a in
-      let d = none-second (unless (rolesRight (s .mode) (f .reads)) 13) _ b in
-      let g = none-second (firstOf (readRefusal offset s) (f .reads)) _ d in
-      let i = none-second (firstOf (readRoom offset s (mappedSequences c) (shareOf (s .mode) (entryCount (x .entries)))) (f .reads)) _ g in
-      passed _ 17 (λ z. omega arith) i
 
   -- a refused one leaves state and counters as they were
   pub refused-leaves : (refusal ≡ 0 → ⊥) → next q offset c h x ≡ h
@@ -62,7 +46,7 @@ module _ (q offset : ℕ) (c : Catalogue) (h : Held) (x : Call) where
   next-countable = go refusal refl
     where
       go : (n : ℕ) → refusal ≡ n → countable (booksOf h) ≡ true → countable (booksOf (heldAfter q offset c (x .lent) h (x .fragment) n)) ≡ true
-      go zero e t = accepted-countable e
+      go zero e t = fragment-checked q offset c (x .lent) h (x .fragment) (entryCount (x .entries)) e .counts
       go (suc n) e t = t
 
 -- ---- a list of calls

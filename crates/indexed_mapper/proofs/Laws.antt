@@ -1,6 +1,6 @@
 -- What a user of `map` may rely on, and two searches held against each other.
 -- Assumes nothing.
-use mathlib.Core.Path.{_≡_, refl, sym, ap, ap₂, _∙_}
+use mathlib.Core.Path.{_≡_, refl, sym, ap, ap₂, subst, _∙_}
 use mathlib.Core.Bool.{Bool, true, false, _&&_}
 use mathlib.Core.Logic.{_↔_}
 use mathlib.Core.List.{List, [], _∷_, _++_, map}
@@ -64,6 +64,29 @@ module _ (limit : ℕ) (gs : List Place) (w : MappingWork) where
   pub row-work : mappedRow limit gs w .work ≡ w
   row-work = by-test (ltb limit (length gs)) (λ t. rw t) (λ t. rw t)
 
+-- ---- one read whose groups stand in front of zeros: demand 2 for whoever searches
+
+-- of a row that is not indeterminate the entries are exactly the matches, each once, ascending by rank, start and strand; the row is
+-- indeterminate exactly if there are more matches than the limit
+pub row-lists : (c : Catalogue) → Valid c → (read : List ℕ) (limit : ℕ) (w : MappingWork) (b b′ : List ℕ)
+    → b′ ≡ placed 0 (entriesOf (suppliedPlaces c) (length read) (listed limit (groups (mappedSequences c) read))) (cleared b)
+    → Lists c read limit (mappedRow limit (groups (mappedSequences c) read) w) b b′
+row-lists c right read limit w b b′ e =
+    record {
+      matches = matchesOf c right read;
+      exactly = matches-exactly c right read;
+      ascending = matches-ascend c right read;
+      indeterminate = rw as-many (row-indeterminate limit gs w);
+      number = λ ne. rw (few limit gs w ne, as-many);
+      entries = λ ne. rw (few limit gs w ne) at e ∙ ap (λ l. placed 0 l (cleared b)) (matches-entries c right read);
+    }
+  where
+    gs : List Place
+    gs = groups (mappedSequences c) read
+
+    as-many : length (matchesOf c right read) ≡ length gs
+    as-many = length-map gs _
+
 -- ---- one answer: demand 2 for the mapper
 
 module _ (q : ℕ) (c : Catalogue) (ks rs os read : List ℕ) (limit : ℕ) (r : MapAnswer) (b b′ : List ℕ) (m : MapsTo q c ks rs os read limit r b b′) where
@@ -79,24 +102,12 @@ module _ (q : ℕ) (c : Catalogue) (ks rs os read : List ℕ) (limit : ℕ) (r :
     unfolding mapRefusal indexRefusal
     right = plan-right q c (none-first (planRefusal q c) _ (none-first (indexRefusal q c ks rs os) _ (none .0))) .1
 
-    state-is : a .state ≡ mappedRow limit (groups (mappedSequences c) read) (work q (mappedSequences c) read limit) .state
-    state-is = ap (λ (x : Row). x .state) (sym (none .1))
-
-    as-many : length (matchesOf c right read) ≡ length (groups (mappedSequences c) read)
-    as-many = length-map (groups (mappedSequences c) read) _
-
     -- of an answer that is neither refused nor indeterminate the entries are exactly the matches, each once, ascending by
     -- rank, start and strand; an accepted read is indeterminate exactly if it has more matches than the limit
     pub map-lists : Lists c read limit a b b′
     map-lists =
-        record {
-          matches = matchesOf c right read;
-          exactly = matches-exactly c right read;
-          ascending = matches-ascend c right read;
-          indeterminate = rw (as-many, state-is) (row-indeterminate limit (groups (mappedSequences c) read) (work q (mappedSequences c) read limit));
-          number = λ ne. let f = few limit (groups (mappedSequences c) read) (work q (mappedSequences c) read limit) (rw state-is at ne) in ap (λ (x : Row). x .groups) (sym (none .1)) ∙ rw (f, as-many);
-          entries = λ ne. let f = few limit (groups (mappedSequences c) read) (work q (mappedSequences c) read limit) (rw state-is at ne) in rw (none .0, f) at (m .entries) ∙ ap (λ l. placed 0 l (cleared b)) (matches-entries c right read);
-        }
+        subst (λ (x : Row). Lists c read limit x b b′) (none .1)
+        (row-lists c right read limit (work q (mappedSequences c) read limit) b b′ (rw (none .0) at (m .entries)))
 
     -- the work is that of the search by index under the limit
     pub map-work : a .work ≡ work q (mappedSequences c) read limit

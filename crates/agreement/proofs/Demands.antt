@@ -1,0 +1,42 @@
+-- What is owed of whole runs, each as one theorem about the audit as it is: seeds of 15 bases, qualities from 33 on.
+-- Assumes nothing.
+use mathlib.Core.Path.{_≡_}
+use mathlib.Core.List.{List}
+use Prim.Native.Nat.{ℕ}
+use Rattle.catalogue.specs.Catalogue.{Catalogue}
+use Rattle.ledger.specs.Booking.{Counters}
+use Rattle.audit.specs.declared.settings.Settings.{Settings}
+use Rattle.audit.specs.Settings.{Held, auditSeed, auditOffset}
+use Rattle.audit.specs.Opening.{IndexLent, openingRefusal, openingHeld}
+use Rattle.audit.specs.Run.{Call, next, after}
+use Rattle.agreement.specs.Meaning.{RunMeans, Reconciled, CanBeLeftOut}
+use Rattle.agreement.proofs.Running.{spare-call}
+use Rattle.agreement.proofs.Sheets.{run-counts, sheet-means, never-apart, role-shown}
+use Rattle.agreement.proofs.Listing.{calls-listed}
+
+-- Demand 2: "a complete answer lists each matching (linear target, start, strand) once, ascending; an accepted read is indeterminate
+-- exactly if it has more matches than the limit; state counts and available target totals equal counts over the accepted fragments."
+pub demand-two : (c : Catalogue) (lent : IndexLent) (s : Settings) (k : Counters) → openingRefusal auditSeed auditOffset c lent s k ≡ 0
+    → (xs : List Call) → RunMeans auditSeed auditOffset c s (openingHeld auditSeed auditOffset c lent s k) xs
+demand-two c lent s k begun xs =
+    record {
+      calls = calls-listed auditSeed auditOffset c (openingHeld auditSeed auditOffset c lent s k) xs;
+      counts = run-counts auditSeed auditOffset c lent s k begun xs;
+      sheet = sheet-means auditSeed auditOffset c lent s k begun xs;
+    }
+
+-- "No upload can spoil a run": a call that leaves state and counters as they were, a refused one above all (`refused-leaves`), can be
+-- left out of a list or put in without a change in what the others answer.
+pub nothing-spoils : (c : Catalogue) (h : Held) (xs : List Call) (x : Call) (ys : List Call)
+    → next auditSeed auditOffset c (after auditSeed auditOffset c h xs) x ≡ after auditSeed auditOffset c h xs → CanBeLeftOut auditSeed auditOffset c h xs x ys
+nothing-spoils c = spare-call auditSeed auditOffset c
+
+-- Refusal 18, "rows or target sums disagree with the kept totals, or a sum overflows", meets no run whose state and counters nobody else
+-- wrote, and the sheet shows as many reads of a role, over its states, as were accepted.
+pub reconciled : (c : Catalogue) (lent : IndexLent) (s : Settings) (k : Counters) → openingRefusal auditSeed auditOffset c lent s k ≡ 0
+    → (xs : List Call) → Reconciled auditSeed auditOffset c (openingHeld auditSeed auditOffset c lent s k) xs
+reconciled c lent s k begun xs =
+    record {
+      together = never-apart auditSeed auditOffset c lent s k begun xs;
+      shown = role-shown auditSeed auditOffset c lent s k begun xs;
+    }
