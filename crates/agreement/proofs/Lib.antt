@@ -1,3 +1,4 @@
 pub mod Placing
 pub mod Turned
 pub mod Fragments
+pub mod Agreeing
