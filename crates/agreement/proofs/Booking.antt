@@ -1,33 +1,34 @@
 -- What a run books: its books are the history booked, and every read of the history can be booked.
 -- Assumes nothing.
-use mathlib.Core.Path.{_≡_, refl, sym, ap, subst, _∙_}
+use mathlib.Core.Path.{_≡_, refl, sym, subst, _∙_}
 use mathlib.Core.Bool.{Bool, true, false, cond, _&&_}
 use mathlib.Core.Logic.{_⊎_, inl, inr}
-use mathlib.Core.List.{List, [], _∷_, _++_, map}
+use mathlib.Core.List.{List, [], _∷_}
 use Prim.Native.Nat.{ℕ, zero, suc, _<_}
 use native.Mathlib.Omega.{arith}
-use lib.ListN.{length, length-map}
+use lib.ListN.{length}
 use lib.Dec.{ltb}
 use Rattle.lists.specs.Member.{_∈_}
 use Rattle.lists.proofs.Cases.{by-test}
 use Rattle.lists.proofs.Member.{map-∈, append-∈}
 use Rattle.bases.specs.Eligibility.{eligibility}
-use Rattle.catalogue.specs.Catalogue.{Catalogue, Target, mapped, suppliedPlaces}
+use Rattle.catalogue.specs.Catalogue.{Catalogue}
 use Rattle.index.specs.Index.{mappedSequences}
 use Rattle.places.specs.Place.{Place, groups}
 use Rattle.places.proofs.Placing.{groups-∈}
 use Rattle.scan.specs.Entries.{entryCount}
 use Rattle.index_search.specs.Work.{Way, workBy}
-use Rattle.search.specs.Answer.{row, listed, stateOf, mappedRow}
-use Rattle.ledger.specs.Booking.{Booked, Books, bookedAll}
+use Rattle.search.specs.Answer.{row, stateOf, mappedRow}
+use Rattle.ledger.specs.Booking.{Booked}
 use Rattle.ledger.specs.Counting.{Bookable}
 use Rattle.audit.specs.declared.settings.MateRole.{MateRole}
 use Rattle.audit.specs.declared.settings.MateRole.the-variants as roles
 use Rattle.audit.specs.declared.settings.Settings.{Settings}
-use Rattle.audit.specs.Settings.{Held, booksOf, roleNumber, statesShown}
+use Rattle.audit.specs.Settings.{Held, roleNumber, statesShown}
 use Rattle.audit.specs.Opening.{wayOf}
-use Rattle.audit.specs.Observing.{MateRead, isEligible, noWork, isSearched, readGroups, readListed, readRow, readBooked}
-use Rattle.audit.specs.Fragment.{Fragment, fragmentRefusal, fragmentBooked, heldAfter}
+use Rattle.audit.specs.Observing.{MateRead, isEligible, noWork, readBooked}
+use Rattle.audit.specs.Fragment.{fragmentRefusal, fragmentBooked, heldAfter}
+use Rattle.agreement.proofs.Turned.{listed-∈}
 use Rattle.audit.specs.Run.{Call, ifAccepted, next, books, after, history}
 
 -- ---- one read
@@ -64,26 +65,13 @@ module _ (offset : ℕ) (s : Settings) (ss : List (List ℕ)) (way : Way) (r : M
       go true false = inl refl
       go false fit = inl refl
 
-  listed-∈ : (p : Place) → p ∈ readListed offset s ss r → p ∈ groups ss (r .read .bases)
-  listed-∈ p = go (isSearched offset s r)
-    where
-      gs : List Place
-      gs = groups ss (r .read .bases)
-
-      go : (b : Bool) → p ∈ listed (s .limit) (cond b gs []) → p ∈ gs
-      go true m = whole (ltb (s .limit) (length gs)) m
-        where
-          whole : (b : Bool) → p ∈ cond b [] gs → p ∈ gs
-          whole false m = m
-      go false m = absurd (by-test (ltb (s .limit) 0) (λ t. rw t at m) (λ t. rw t at m))
-
   -- it can be booked
   pub read-bookable : Bookable (length ss) (readBooked offset s ss way r)
   read-bookable =
       record {
         role = few-roles (r .role);
         state = shown-few (s .remap) _ state-shown;
-        ranked = λ p m. groups-∈ ss (r .read .bases) p (listed-∈ p m) .0 .ranked;
+        ranked = λ p m. groups-∈ ss (r .read .bases) p (listed-∈ offset s ss r p m) .0 .ranked;
       }
 
 -- ---- runs

@@ -3,15 +3,15 @@
 use mathlib.Core.Path.{_≡_, refl, sym, ap, _∙_}
 use mathlib.Core.Bool.{Bool, true}
 use mathlib.Core.Logic.{inl, inr}
-use mathlib.Core.List.{List, [], _∷_, map}
-use Prim.Native.Nat.{ℕ, zero, suc, _+_, _<_}
+use mathlib.Core.List.{List, [], _∷_}
+use Prim.Native.Nat.{ℕ, suc, _+_, _<_}
 use native.Mathlib.Omega.{arith}
 use lib.ListN.{length, getD, length-map}
 use Rattle.lists.specs.Member.{_∈_, Distinct}
 use Rattle.lists.specs.Order.{StrictOrder, Ascending}
 use Rattle.lists.proofs.Member.{∈-map, map-∈, ∈-getD}
 use Rattle.lists.proofs.Order.{later-differs}
-use Rattle.promises.specs.Refusal.{unless, _orElse_}
+use Rattle.promises.specs.Refusal.{unless}
 use Rattle.promises.proofs.Refusing.{none-first, none-second}
 use Rattle.names.proofs.NameLaws.{place-order}
 use Rattle.names.specs.Ordered.{placeBefore}
@@ -25,7 +25,7 @@ use Rattle.ledger.specs.Booking.{Counters}
 use Rattle.ledger.specs.Counting.{Ranked}
 use Rattle.audit.specs.declared.settings.Settings.{Settings}
 use Rattle.audit.specs.Settings.{floorRight}
-use Rattle.audit.specs.Opening.{IndexLent, indexRight, countersRight, openingRefusal}
+use Rattle.audit.specs.Opening.{IndexLent, countersRight, openingRefusal}
 
 -- the opening's checks have passed
 pub opening-valid : (q offset : ℕ) (c : Catalogue) (lent : IndexLent) (s : Settings) (k : Counters) → openingRefusal q offset c lent s k ≡ 0 → Valid c

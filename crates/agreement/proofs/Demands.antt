@@ -3,16 +3,19 @@
 use mathlib.Core.Path.{_≡_}
 use mathlib.Core.List.{List}
 use Prim.Native.Nat.{ℕ}
+use native.Mathlib.Omega.{arith}
 use Rattle.catalogue.specs.Catalogue.{Catalogue}
 use Rattle.ledger.specs.Booking.{Counters}
 use Rattle.audit.specs.declared.settings.Settings.{Settings}
 use Rattle.audit.specs.Settings.{Held, auditSeed, auditOffset}
-use Rattle.audit.specs.Opening.{IndexLent, openingRefusal, openingHeld}
+use Rattle.audit.specs.Opening.{IndexLent, columns, none, openingRefusal, openingHeld}
 use Rattle.audit.specs.Run.{Call, next, after}
 use Rattle.agreement.specs.Meaning.{RunMeans, Reconciled, CanBeLeftOut}
+use Rattle.agreement.specs.Twins.{TwinCall, RefusedTogether, RunsAgree}
 use Rattle.agreement.proofs.Running.{spare-call}
 use Rattle.agreement.proofs.Sheets.{run-counts, sheet-means, never-apart, role-shown}
 use Rattle.agreement.proofs.Listing.{calls-listed}
+use Rattle.agreement.proofs.Agreeing.{runs-agree}
 
 -- Demand 2: "a complete answer lists each matching (linear target, start, strand) once, ascending; an accepted read is indeterminate
 -- exactly if it has more matches than the limit; state counts and available target totals equal counts over the accepted fragments."
@@ -24,6 +27,16 @@ demand-two c lent s k begun xs =
       counts = run-counts auditSeed auditOffset c lent s k begun xs;
       sheet = sheet-means auditSeed auditOffset c lent s k begun xs;
     }
+
+-- Demand 3: "the audit by the index and the plain one that compares at every start agree, whichever reads the second gets turned round,
+-- and the index never makes more full comparisons." The same targets and settings, neither opening refused; any list of fragment calls,
+-- refused ones included, `finish` last; no call refused by one audit alone. Placements are what stands in the entries that each is lent.
+pub demand-three : (c : Catalogue) (s : Settings) (k k′ : Counters) (ks rs os : List ℕ)
+    → openingRefusal auditSeed auditOffset c (columns ks rs os) s k ≡ 0 → openingRefusal auditSeed auditOffset c none s k′ ≡ 0
+    → (xs : List TwinCall) (ks′ rs′ os′ : List ℕ)
+    → RefusedTogether auditSeed auditOffset c ks′ rs′ os′ (openingHeld auditSeed auditOffset c (columns ks rs os) s k) (openingHeld auditSeed auditOffset c none s k′) xs
+    → RunsAgree auditSeed auditOffset c ks′ rs′ os′ (openingHeld auditSeed auditOffset c (columns ks rs os) s k) (openingHeld auditSeed auditOffset c none s k′) xs s
+demand-three = runs-agree auditSeed auditOffset (omega arith)
 
 -- "No upload can spoil a run": a call that leaves state and counters as they were, a refused one above all (`refused-leaves`), can be
 -- left out of a list or put in without a change in what the others answer.

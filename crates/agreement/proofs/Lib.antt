@@ -1,8 +1,10 @@
 pub mod Catalogues
+pub mod Turned
 pub mod Booking
 pub mod Running
+pub mod Listing
 pub mod Sheets
 pub mod Placing
-pub mod Turned
-pub mod Listing
+pub mod Fragments
+pub mod Agreeing
 pub mod Demands

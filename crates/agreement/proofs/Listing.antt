@@ -1,27 +1,24 @@
 -- What an accepted fragment lists of each read that is searched.
 -- Assumes nothing.
-use mathlib.Core.Path.{_≡_, refl, sym, ap, subst, subst₂, _∙_}
-use mathlib.Core.Bool.{Bool, true, cond}
+use mathlib.Core.Path.{_≡_, sym, subst}
+use mathlib.Core.Bool.{true}
 use mathlib.Core.List.{List, [], _∷_, map}
-use Prim.Native.Nat.{ℕ, zero, suc, _+_, _*_}
-use native.Mathlib.Omega.{arith}
-use lib.ListN.{length}
+use Prim.Native.Nat.{ℕ, _+_, _*_}
 use Rattle.promises.specs.Refusal.{accepted}
 use Rattle.promises.proofs.Refusing.{outcome-accepted}
 use Rattle.catalogue.specs.Catalogue.{Catalogue, Valid, suppliedPlaces}
 use Rattle.seeds.specs.Seeds.{placed}
 use Rattle.index.specs.Index.{mappedSequences}
-use Rattle.places.specs.Place.{Place, groups}
-use Rattle.scan.specs.Entries.{entryCount, cleared, entriesOf}
+use Rattle.scan.specs.Entries.{entryCount, cleared}
 use Rattle.index_search.specs.Work.{Way, workBy}
-use Rattle.search.specs.Answer.{Row, row, listed, mappedRow}
+use Rattle.search.specs.Answer.{Row}
 use Rattle.indexed_mapper.specs.Match.{Lists}
 use Rattle.indexed_mapper.proofs.Laws.{row-lists}
 use Rattle.audit.specs.declared.settings.Settings.{Settings}
 use Rattle.audit.specs.Settings.{Held}
-use Rattle.audit.specs.Opening.{wayOf, openingRefusal}
-use Rattle.audit.specs.Observing.{MateRead, noWork, unsearched, isSearched, readRefusal, readRoom, readRow, readEntries, readListed, readGroups}
-use Rattle.audit.specs.Fragment.{Fragment, inOrder, rolesRight, firstOf, shareOf, inParts, entriesLeft, fragmentRefusal, fragmentBooks, fragmentWritten}
+use Rattle.audit.specs.Opening.{wayOf}
+use Rattle.audit.specs.Observing.{MateRead, isSearched, readRow, readEntries}
+use Rattle.audit.specs.Fragment.{shareOf, entriesLeft, fragmentRefusal, fragmentWritten}
 use Rattle.audit.specs.Run.{Call, answerTo, next}
 use Rattle.audit.proofs.Checking.{Checked, fragment-checked}
 use Rattle.audit.proofs.Parts.{InParts, reads-in-parts}

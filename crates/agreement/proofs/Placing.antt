@@ -1,14 +1,14 @@
 -- Placements in the entries of a read: those of its listed groups, and those of the groups turned round.
 -- Assumes nothing.
-use mathlib.Core.Path.{_≡_, refl, sym, ap, ap₂, _∙_}
+use mathlib.Core.Path.{_≡_, refl, ap, _∙_}
 use mathlib.Core.Bool.{Bool, true, false, cond}
 use mathlib.Core.Logic.{inl, inr}
 use mathlib.Core.List.{List, [], _∷_, _++_, map}
-use Prim.Native.Nat.{ℕ, _+_, _-_, _<_}
+use Prim.Native.Nat.{ℕ, _+_, _<_}
 use native.Mathlib.Omega.{arith}
 use lib.ListN.{length, getD}
 use Rattle.lists.specs.Member.{_∈_}
-use Rattle.lists.specs.Sort.{insert, merge, sort}
+use Rattle.lists.specs.Sort.{insert, sort}
 use Rattle.lists.proofs.Member.{map-∈}
 use Rattle.lists.proofs.Sort.{sort-∈}
 use Rattle.catalogue.specs.Catalogue.{Catalogue, Valid, mapped, suppliedPlaces}

@@ -1,22 +1,17 @@
 -- Calls one after the other: the books are the history booked, every number has 64 bits, and a call that changes nothing can be left out.
 -- Assumes nothing.
-use mathlib.Core.Path.{_≡_, refl, sym, ap, ap₂, subst, _∙_}
-use mathlib.Core.Bool.{Bool, true, false}
+use mathlib.Core.Path.{_≡_, refl, sym, ap, _∙_}
+use mathlib.Core.Bool.{true}
 use mathlib.Core.List.{List, [], _∷_, _++_}
-use Prim.Native.Nat.{ℕ, zero, suc, _≤_}
-use native.Mathlib.Omega.{arith}
-use lib.ListN.{length, replicate}
-use lib.Dec.{leb}
-use Rattle.lists.specs.Filter.{every}
-use Rattle.catalogue.specs.Catalogue.{Catalogue, targets, suppliedPlaces}
+use Prim.Native.Nat.{ℕ, zero, suc}
+use Rattle.catalogue.specs.Catalogue.{Catalogue, suppliedPlaces}
 use Rattle.scan.specs.Entries.{entryCount}
-use Rattle.ledger.specs.Booking.{Booked, Books, bookedAll, emptyLedger, emptyCounters, maxCounter, kept, countable}
+use Rattle.ledger.specs.Booking.{bookedAll, countable}
 use Rattle.ledger.proofs.Booking.{booked-append}
-use Rattle.audit.specs.declared.settings.Settings.{Settings}
 use Rattle.audit.specs.Settings.{Held, booksOf}
-use Rattle.audit.specs.Opening.{started, openingRefusal}
-use Rattle.audit.specs.Fragment.{Fragment, fragmentRefusal, fragmentBooked, heldAfter}
+use Rattle.audit.specs.Fragment.{fragmentRefusal, fragmentBooked, heldAfter}
 use Rattle.audit.proofs.Checking.{fragment-checked}
+use Rattle.audit.proofs.Calls.{refused-holds}
 use Rattle.agreement.specs.Meaning.{CanBeLeftOut}
 use Rattle.audit.specs.Run.{Call, Answer, ifAccepted, answerTo, next, books, answers, after, history}
 
@@ -28,11 +23,7 @@ module _ (q offset : ℕ) (c : Catalogue) (h : Held) (x : Call) where
 
   -- a refused one leaves state and counters as they were
   pub refused-leaves : (refusal ≡ 0 → ⊥) → next q offset c h x ≡ h
-  refused-leaves = go refusal
-    where
-      go : (n : ℕ) → (n ≡ 0 → ⊥) → heldAfter q offset c (x .lent) h (x .fragment) n ≡ h
-      go zero ne = absurd (ne refl)
-      go (suc n) ne = refl
+  refused-leaves = refused-holds q offset c (x .lent) h (x .fragment) refusal
 
   -- the books after a call are those before it with what it books
   next-books : booksOf (next q offset c h x) ≡ bookedAll (suppliedPlaces c) (books q offset c h x) (booksOf h)

@@ -1,14 +1,14 @@
 -- What a run behind an accepted opening has counted, and what `finish` shows of it.
 -- Assumes nothing.
 use mathlib.Core.Path.{_≡_, refl, sym, ap, ap₂, subst, _∙_}
-use mathlib.Core.Bool.{Bool, true, false, not, cond, _||_}
+use mathlib.Core.Bool.{Bool, true, false, not, _||_}
 use mathlib.Core.Logic.{inl, inr}
 use mathlib.Core.List.{List, [], _∷_, _++_, map}
 use Prim.Native.Nat.{ℕ, zero, suc, _+_, _≤_, _<_}
 use native.Mathlib.Omega.{arith}
 use lib.ListN.{length, getD, replicate, length-map}
 use lib.Dec.{eqb, leb}
-use borrow.Author.Tests.{eq-eqb, le-leb}
+use borrow.Author.Tests.{eq-eqb}
 use Rattle.lists.specs.Filter.{every}
 use Rattle.lists.specs.Member.{_∈_, Distinct}
 use Rattle.lists.proofs.Cases.{clash, and-true}
@@ -21,9 +21,9 @@ use Rattle.catalogue.specs.Catalogue.{Catalogue, Target, Valid, targets, names,
 use Rattle.index.specs.Index.{mappedSequences}
 use Rattle.search.specs.Bounds.{limitRight}
 use Rattle.indexed_mapper.specs.Match.{rankOf}
-use Rattle.ledger.specs.Booking.{Booked, Counters, Books, bookedAll, emptyLedger, emptyCounters, maxCounter, countable}
+use Rattle.ledger.specs.Booking.{Booked, Counters, bookedAll, emptyLedger, emptyCounters, maxCounter, countable}
 use Rattle.ledger.specs.Balance.{sum, countOf, balanced}
-use Rattle.ledger.specs.Counting.{readsIn, readsOf, anyIndeterminate, placementsOn, singlesOn, multiOn, Bookable, Ranked, Counts}
+use Rattle.ledger.specs.Counting.{readsIn, readsOf, anyIndeterminate, placementsOn, singlesOn, multiOn, Bookable, Counts}
 use Rattle.ledger.proofs.Booking.{booked-lengths}
 use Rattle.ledger.proofs.Counting.{booked-counts}
 use Rattle.ledger.proofs.Balancing.{states-sum, counts-balanced}

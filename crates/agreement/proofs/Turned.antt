@@ -2,9 +2,8 @@
 -- Assumes nothing.
 use mathlib.Core.Path.{_≡_, refl, sym, ap, ap₂, _∙_}
 use mathlib.Core.Bool.{Bool, true, false, cond, _&&_}
-use mathlib.Core.Logic.{inl, inr}
 use mathlib.Core.List.{List, [], _∷_, _++_, map, map-append}
-use Prim.Native.Nat.{ℕ, zero, suc, _≤_, _<_}
+use Prim.Native.Nat.{ℕ, zero, suc, _≤_}
 use native.Mathlib.Omega.{arith}
 use lib.ListN.{length, getD}
 use lib.Dec.{ltb}
@@ -12,14 +11,13 @@ use Rattle.lists.specs.Filter.{consIf, filter}
 use Rattle.lists.specs.Member.{_∈_}
 use Rattle.lists.proofs.Cases.{by-test}
 use Rattle.lists.proofs.Filter.{filter-append}
-use Rattle.promises.specs.Refusal.{unless, _orElse_}
+use Rattle.promises.specs.Refusal.{unless}
 use Rattle.promises.proofs.Refusing.{none-second}
-use Rattle.bases.specs.Read.{Read, reverseComplement, turned}
-use Rattle.bases.specs.Eligibility.{Verdict, refused, ineligible, eligible, eligibility}
+use Rattle.bases.specs.Read.{reverseComplement, turned}
+use Rattle.bases.specs.Eligibility.{Verdict, refused, eligibility}
 use Rattle.bases.proofs.Turning.{length-reverse-complement, eligibility-turned}
 use Rattle.seeds.specs.Window.{starts}
 use Rattle.places.specs.Place.{Place, place, placesIn, placesFrom, places, matches, groups}
-use Rattle.places.proofs.Placing.{groups-∈}
 use Rattle.places.proofs.Swapping.{matches-turned}
 use Rattle.candidates.proofs.Candidates.{comparable-fewer}
 use Rattle.index_search.specs.Work.{work, scanWork, Way, byIndex, plain, workBy}
@@ -29,7 +27,7 @@ use Rattle.indexed_mapper.specs.Laws.{turnedGroups}
 use Rattle.indexed_mapper.proofs.Laws.{row-groups, row-work, number-turned, listed-turned}
 use Rattle.ledger.specs.Booking.{targetsOf}
 use Rattle.audit.specs.declared.settings.Settings.{Settings}
-use Rattle.audit.specs.Observing.{MateRead, verdictRefusal, isEligible, noWork, readRefusal, isSearched, unsearched, readGroups, readListed, readRow}
+use Rattle.audit.specs.Observing.{MateRead, verdictRefusal, isEligible, readRefusal, isSearched, unsearched, readListed, readRow}
 use Rattle.agreement.specs.Twins.{turnedMate}
 
 -- ---- the ranks of a turned read's groups

@@ -12,7 +12,7 @@ use Rattle.search.specs.Answer.{Row}
 use Rattle.audit.specs.declared.settings.Settings.{Settings}
 use Rattle.audit.specs.declared.sheet.Sheet.{Sheet}
 use Rattle.audit.specs.Settings.{Held}
-use Rattle.audit.specs.Opening.{IndexLent, columns, none}
+use Rattle.audit.specs.Opening.{columns, none}
 use Rattle.audit.specs.Observing.{MateRead}
 use Rattle.audit.specs.Fragment.{shareOf}
 use Rattle.audit.specs.Sheet.{finishAnswer, targetsShown}

@@ -4,7 +4,7 @@ use mathlib.Core.Path.{_≡_}
 use mathlib.Core.Bool.{true}
 use Prim.Native.Nat.{ℕ}
 use native.Mathlib.Omega.{arith}
-use Rattle.promises.specs.Refusal.{unless, _orElse_}
+use Rattle.promises.specs.Refusal.{unless}
 use Rattle.promises.proofs.Refusing.{none-first, none-second, passed}
 use Rattle.catalogue.specs.Catalogue.{Catalogue}
 use Rattle.index.specs.Index.{mappedSequences}

@@ -3,7 +3,7 @@
 use mathlib.Core.Path.{_≡_, refl, sym, ap, ap₂, _∙_}
 use mathlib.Core.Bool.{true}
 use mathlib.Core.List.{List, [], _∷_, _++_, map, append-assoc, append-nil}
-use Prim.Native.Nat.{ℕ, zero, suc, _+_, _-_, _*_, _/_, _≤_}
+use Prim.Native.Nat.{ℕ, zero, suc, _+_, _-_, _*_, _≤_}
 use native.Mathlib.Omega.{arith}
 use native.Mathlib.Nat.{mul-suc}
 use lib.ListN.{length, take, drop, replicate, length-append, length-map, length-replicate, drop-of-length-le}
@@ -12,11 +12,10 @@ use Rattle.lists.specs.Cut.{window}
 use Rattle.lists.proofs.Cut.{length-window}
 use Rattle.lists.proofs.Places.{drop-take}
 use Rattle.lists.proofs.Same.{same-true}
-use Rattle.promises.specs.Refusal.{_orElse_}
 use Rattle.promises.proofs.Refusing.{none-first, none-second}
 use Rattle.seeds.specs.Seeds.{placed}
 use Rattle.seeds.proofs.Storing.{length-placed}
-use Rattle.scan.specs.Entries.{entriesOf, entryCount, cleared}
+use Rattle.scan.specs.Entries.{entryCount, cleared}
 use Rattle.scan.proofs.Going.{length-entries}
 use Rattle.search.proofs.Concluding.{length-cleared}
 use Rattle.search.proofs.Parts.{listed-room}

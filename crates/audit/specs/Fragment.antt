@@ -2,7 +2,6 @@
 use mathlib.Core.Bool.{Bool, true, cond, _||_}
 use mathlib.Core.List.{List, [], _∷_, map}
 use Prim.Native.Nat.{ℕ, zero, suc, _+_, _*_, _/_}
-use lib.ListN.{length}
 use lib.Dec.{eqb, ltb}
 use Rattle.lists.specs.Same.{same}
 use Rattle.promises.specs.Refusal.{unless, _orElse_, Outcome, outcome}

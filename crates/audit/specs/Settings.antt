@@ -9,7 +9,6 @@ use Rattle.audit.specs.declared.settings.AuditInputMode.the-variants as 
 use Rattle.audit.specs.declared.settings.MateRole.{MateRole}
 use Rattle.audit.specs.declared.settings.MateRole.the-variants as roles
 use Rattle.audit.specs.declared.settings.Settings.{Settings}
-use Rattle.audit.specs.declared.settings.LastOrdinal.{LastOrdinal}
 use Rattle.audit.specs.declared.settings.LastOrdinal.the-variants as ordinals
 use Rattle.audit.specs.declared.settings.AuditState.{AuditState}
 

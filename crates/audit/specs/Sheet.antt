@@ -1,5 +1,5 @@
 -- The sheet of a finished audit (REFERENCE.md, "Finish").
-use mathlib.Core.Bool.{Bool, cond, _&&_}
+use mathlib.Core.Bool.{Bool, cond}
 use mathlib.Core.List.{List, [], _∷_, _++_, map}
 use Prim.Native.Nat.{ℕ}
 use Prim.Native.String.{String}
@@ -9,11 +9,9 @@ use Rattle.promises.specs.Refusal.{unless, _orElse_, Outcome, outcome}
 use Rattle.catalogue.specs.Catalogue.{Catalogue, Target, targets, isMapped}
 use Rattle.ledger.specs.Booking.{Counters}
 use Rattle.ledger.specs.Balance.{countOf, balanced}
-use Rattle.audit.specs.declared.settings.Settings.{Settings}
 use Rattle.audit.specs.declared.sheet.Status.{Status}
 use Rattle.audit.specs.declared.sheet.Status.the-variants as statuses
 use Rattle.audit.specs.declared.sheet.PlacementTotals.{PlacementTotals}
-use Rattle.audit.specs.declared.sheet.Availability.{Availability}
 use Rattle.audit.specs.declared.sheet.Availability.the-variants as totals
 use Rattle.audit.specs.declared.sheet.Shown.{Shown}
 use Rattle.audit.specs.declared.sheet.Sheet.{Sheet}

@@ -6,7 +6,7 @@ use lib.ListN.{getD}
 use lib.Dec.{eqb, leb}
 use Rattle.lists.specs.Filter.{every}
 use Rattle.ledger.specs.declared.Ledger.{Ledger}
-use Rattle.ledger.specs.Booking.{Counters, Books, cell, maxCounter}
+use Rattle.ledger.specs.Booking.{Books, cell, maxCounter}
 
 -- the sum of numbers
 abbrev pub sum : List ℕ → ℕ

@@ -1,11 +1,10 @@
 -- What an audit keeps of its reads, and how one is booked (REFERENCE.md, "Booking").
-use mathlib.Core.Path.{_≡_}
 use mathlib.Core.Bool.{Bool, false, not, cond, _||_}
 use mathlib.Core.List.{List, [], _∷_, _++_, map}
 use Prim.Native.Nat.{ℕ, suc, _+_, _*_}
 use lib.ListN.{length, getD, set, replicate}
 use lib.Dec.{eqb, leb, ltb}
-use Rattle.lists.specs.Filter.{consIf, filter, every}
+use Rattle.lists.specs.Filter.{consIf, every}
 use Rattle.places.specs.Place.{Place}
 use Rattle.ledger.specs.declared.Ledger.{Ledger}
 

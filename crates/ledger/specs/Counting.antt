@@ -1,6 +1,6 @@
 -- What the books count: the reads that were booked, and their groups (REFERENCE.md, "Booking").
 use mathlib.Core.Path.{_≡_}
-use mathlib.Core.Bool.{Bool, true, not, _&&_}
+use mathlib.Core.Bool.{Bool, not, _&&_}
 use mathlib.Core.List.{List, [], _∷_, _++_}
 use Prim.Native.Nat.{ℕ, _<_}
 use lib.ListN.{length, getD}
@@ -8,7 +8,7 @@ use lib.Dec.{eqb, ltb}
 use Rattle.lists.specs.Filter.{filter, every}
 use Rattle.lists.specs.Member.{_∈_, Distinct}
 use Rattle.places.specs.Place.{Place}
-use Rattle.ledger.specs.Booking.{Booked, Counters, Books}
+use Rattle.ledger.specs.Booking.{Booked, Books}
 use Rattle.ledger.specs.Balance.{sum, countOf}
 
 -- ---- reads

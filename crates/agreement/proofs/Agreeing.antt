@@ -1,0 +1,137 @@
+-- Two audits of one list of calls agree, call by call and in the sheet.
+-- Assumes nothing.
+use mathlib.Core.Path.{_≡_, refl, sym, ap, subst, _∙_}
+use mathlib.Core.Bool.{true≢false}
+use mathlib.Core.List.{List, [], _∷_, map, head-eq-of-cons-eq, tail-eq-of-cons-eq}
+use Prim.Native.Nat.{ℕ, zero, suc, _*_, _≤_}
+use Rattle.promises.specs.Refusal.{accepted, outcome}
+use Rattle.promises.proofs.Refusing.{outcome-accepted}
+use Rattle.catalogue.specs.Catalogue.{Catalogue, Valid, suppliedPlaces}
+use Rattle.index.specs.Index.{mappedSequences}
+use Rattle.scan.specs.Entries.{entryCount}
+use Rattle.index_search.specs.Work.{byIndex, plain}
+use Rattle.ledger.specs.Booking.{Counters, Books}
+use Rattle.audit.specs.declared.settings.Settings.{Settings}
+use Rattle.audit.specs.declared.settings.LastOrdinal.the-variants as ordinals
+use Rattle.audit.specs.declared.sheet.Sheet.{Sheet}
+use Rattle.audit.specs.Settings.{Held, booksOf}
+use Rattle.audit.specs.Opening.{IndexLent, columns, none, openingRefusal, started, openingHeld}
+use Rattle.audit.specs.Observing.{readRow}
+use Rattle.audit.specs.Fragment.{Fragment, shareOf, entriesLeft, fragmentRefusal, fragmentAccepted, heldAfter, fragmentWritten}
+use Rattle.audit.specs.Sheet.{sheetOf, targetsShown, finishRefusal, finishAnswer}
+use Rattle.audit.specs.Run.{Answer, answers, after}
+use Rattle.audit.proofs.Checking.{fragment-checked}
+use Rattle.audit.proofs.Parts.{reads-in-parts}
+use Rattle.agreement.specs.Twins.{TwinCall, indexedCall, plainCall, ReadsAgree, CallsAgree, isRefused, refusals, RefusedTogether, RunsAgree}
+use Rattle.agreement.proofs.Catalogues.{opening-valid}
+use Rattle.agreement.proofs.Fragments.{all-booked, all-agree}
+
+module _ (q offset : ℕ) (some : 1 ≤ q) (c : Catalogue) (right : Valid c) where
+  -- ---- one call
+
+  module _ (h : Held) (x : TwinCall) where
+    abbrev s : Settings
+    s = h .state .settings
+
+    abbrev lent : IndexLent
+    lent = columns (x .keys) (x .ranks) (x .positions)
+
+    abbrev fragment : Fragment
+    fragment = indexedCall x .fragment
+
+    abbrev plainFragment : Fragment
+    plainFragment = plainCall x .fragment
+
+    module _ (z : fragmentRefusal q offset c lent h fragment (entryCount (x .entries)) ≡ 0) (z′ : fragmentRefusal q offset c none h plainFragment (entryCount (x .plainEntries)) ≡ 0) where
+      -- both accept it: every read agrees
+      fragment-agrees : ReadsAgree c (4 * shareOf (s .mode) (entryCount (x .entries))) (4 * shareOf (s .mode) (entryCount (x .plainEntries))) 0 0 (x .reads)
+          (map (readRow offset s (mappedSequences c) (byIndex q)) (fragment .reads)) (map (readRow offset s (mappedSequences c) plain) (plainFragment .reads))
+          (fragmentWritten q offset c lent h fragment (x .entries)) (fragmentWritten q offset c none h plainFragment (x .plainEntries))
+      fragment-agrees =
+          let a = fragment-checked q offset c lent h fragment (entryCount (x .entries)) z in
+          let b = fragment-checked q offset c none h plainFragment (entryCount (x .plainEntries)) z′ in
+          all-agree q offset some c right s (x .reads) (a .reads) (b .reads) (4 * shareOf (s .mode) (entryCount (x .entries))) (4 * shareOf (s .mode) (entryCount (x .plainEntries))) 0 0
+          (x .entries) (fragmentWritten q offset c lent h fragment (x .entries)) (x .plainEntries) (fragmentWritten q offset c none h plainFragment (x .plainEntries))
+          (reads-in-parts offset s (mappedSequences c) (suppliedPlaces c) (fragment .reads) (x .entries) (a .roles) (a .rooms))
+          (reads-in-parts offset s (mappedSequences c) (suppliedPlaces c) (plainFragment .reads) (x .plainEntries) (b .roles) (b .rooms))
+
+      -- and both hold the same
+      held-same : fragmentAccepted q offset c lent h fragment ≡ fragmentAccepted q offset c none h plainFragment
+      held-same =
+          let a = fragment-checked q offset c lent h fragment (entryCount (x .entries)) z in
+          let b = fragment-checked q offset c none h plainFragment (entryCount (x .plainEntries)) z′ in
+          ap (λ (k : Books). record { state = record { settings = s; last = ordinals.Accepted (x .ordinal); ledger = k .ledger }; counters = k .counters })
+          (all-booked q offset some c right s (x .reads) (a .reads) (b .reads) (booksOf h))
+
+  -- ---- calls one after the other
+
+  -- from one state on: calls that are refused by both or by none agree, and end in one state
+  abbrev CallsEnd : Settings → List TwinCall → Held → Held → Type 0
+  CallsEnd s xs h h′ = CallsAgree s c xs (answers q offset c h (map indexedCall xs)) (answers q offset c h′ (map plainCall xs)) × (after q offset c h (map indexedCall xs) ≡ after q offset c h′ (map plainCall xs))
+
+  abbrev Together : List TwinCall → Held → Held → Type 0
+  Together xs h h′ = refusals (answers q offset c h (map indexedCall xs)) ≡ refusals (answers q offset c h′ (map plainCall xs))
+
+  calls-agree : (xs : List TwinCall) (h : Held) → Together xs h h → CallsEnd (h .state .settings) xs h h
+  calls-agree [] h e = (tt, refl)
+  calls-agree (x ∷ xs) h e =
+      go (fragmentRefusal q offset c (lent h x) h (fragment h x) (entryCount (x .entries))) (fragmentRefusal q offset c none h (plainFragment h x) (entryCount (x .plainEntries))) refl refl
+      (calls-agree xs) (head-eq-of-cons-eq e) (tail-eq-of-cons-eq e)
+    where
+      first : ℕ → Answer
+      first k = record { rows = outcome k (map (readRow offset (h .state .settings) (mappedSequences c) (byIndex q)) (fragment h x .reads)); entries = entriesLeft k (fragmentWritten q offset c (lent h x) h (fragment h x) (x .entries)) (x .entries) }
+
+      second : ℕ → Answer
+      second k = record { rows = outcome k (map (readRow offset (h .state .settings) (mappedSequences c) plain) (plainFragment h x .reads)); entries = entriesLeft k (fragmentWritten q offset c none h (plainFragment h x) (x .plainEntries)) (x .plainEntries) }
+
+      next : ℕ → Held
+      next k = heldAfter q offset c (lent h x) h (fragment h x) k
+
+      next′ : ℕ → Held
+      next′ k = heldAfter q offset c none h (plainFragment h x) k
+
+      join : (y y′ : Held) → y ≡ y′ → ((g : Held) → Together xs g g → CallsEnd (g .state .settings) xs g g) → Together xs y y′ → CallsEnd (y .state .settings) xs y y′
+      join y y′ e ih t = subst (λ (g : Held). CallsEnd (y .state .settings) xs y g) e (ih y (t ∙ ap (λ (g : Held). refusals (answers q offset c g (map plainCall xs))) (sym e)))
+
+      go : (k k′ : ℕ) → fragmentRefusal q offset c (lent h x) h (fragment h x) (entryCount (x .entries)) ≡ k → fragmentRefusal q offset c none h (plainFragment h x) (entryCount (x .plainEntries)) ≡ k′
+          → ((g : Held) → Together xs g g → CallsEnd (g .state .settings) xs g g)
+          → isRefused (first k .rows) ≡ isRefused (second k′ .rows) → Together xs (next k) (next′ k′)
+          → CallsAgree (h .state .settings) c (x ∷ xs) (first k ∷ answers q offset c (next k) (map indexedCall xs)) (second k′ ∷ answers q offset c (next′ k′) (map plainCall xs))
+          × (after q offset c (next k) (map indexedCall xs) ≡ after q offset c (next′ k′) (map plainCall xs))
+      go zero zero z z′ ih v t =
+          let r = join (fragmentAccepted q offset c (lent h x) h (fragment h x)) (fragmentAccepted q offset c none h (plainFragment h x)) (held-same h x z z′) ih t in
+          ((fragment-agrees h x z z′, r .0), r .1)
+      go zero (suc k′) z z′ ih v t = absurd (true≢false (sym v))
+      go (suc k) zero z z′ ih v t = absurd (true≢false v)
+      go (suc k) (suc k′) z z′ ih v t = let r = ih h t in ((tt, r .0), r .1)
+
+  -- ---- the sheet
+
+  -- two audits in one state have one sheet
+  sheets-same : (lent lent′ : IndexLent) (h h′ : Held) → h ≡ h′ → (a b : Sheet) → finishAnswer q offset c lent h ≡ accepted a → finishAnswer q offset c lent′ h′ ≡ accepted b
+      → (a ≡ b) × (targetsShown a (h .counters) c ≡ targetsShown b (h′ .counters) c)
+  sheets-same lent lent′ h h′ e a b f g =
+      let x = outcome-accepted (finishRefusal q offset c lent h) (sheetOf h) a f .1 in
+      let y = outcome-accepted (finishRefusal q offset c lent′ h′) (sheetOf h′) b g .1 in
+      let same : a ≡ b = sym x ∙ ap sheetOf e ∙ y in
+      (same, λ i. targetsShown (same i) (e i .counters) c)
+
+  pub from-one : (h : Held) (xs : List TwinCall) (ks rs os : List ℕ) → RefusedTogether q offset c ks rs os h h xs → RunsAgree q offset c ks rs os h h xs (h .state .settings)
+  from-one h xs ks rs os t =
+      let r = calls-agree xs h (t .calls) in
+      record {
+        calls = r .0;
+        sheets = sheets-same (columns ks rs os) none (after q offset c h (map indexedCall xs)) (after q offset c h (map plainCall xs)) (r .1);
+      }
+
+-- ---- from two openings
+
+-- two audits that both open, one by the index and one at every start, agree on one list of calls in which the second gets some reads
+-- turned round, where no call is refused by one alone
+pub runs-agree : (q offset : ℕ) → 1 ≤ q → (c : Catalogue) (s : Settings) (k k′ : Counters) (ks rs os : List ℕ)
+    → openingRefusal q offset c (columns ks rs os) s k ≡ 0 → openingRefusal q offset c none s k′ ≡ 0
+    → (xs : List TwinCall) (ks′ rs′ os′ : List ℕ)
+    → RefusedTogether q offset c ks′ rs′ os′ (openingHeld q offset c (columns ks rs os) s k) (openingHeld q offset c none s k′) xs
+    → RunsAgree q offset c ks′ rs′ os′ (openingHeld q offset c (columns ks rs os) s k) (openingHeld q offset c none s k′) xs s
+runs-agree q offset some c s k k′ ks rs os z z′ xs ks′ rs′ os′ =
+    rw (z, z′) (from-one q offset some c (opening-valid q offset c none s k′ z′) (started c s) xs ks′ rs′ os′)

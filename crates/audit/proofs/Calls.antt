@@ -1,0 +1,34 @@
+-- What a fragment call holds and reports: a refused one leaves everything as it was, and an index is searched by.
+-- Assumes nothing.
+use mathlib.Core.Path.{_≡_, refl, ap}
+use mathlib.Core.Bool.{true}
+use mathlib.Core.List.{List}
+use Prim.Native.Nat.{ℕ, zero, suc}
+use lib.ListN.{length}
+use lib.Dec.{ltb}
+use Rattle.lists.proofs.Cases.{by-test}
+use Rattle.catalogue.specs.Catalogue.{Catalogue}
+use Rattle.places.specs.Place.{groups}
+use Rattle.candidates.specs.Search.{compared}
+use Rattle.index_search.specs.Work.{work}
+use Rattle.index_search.specs.declared.work.MappingWork.{MappingWork}
+use Rattle.audit.specs.declared.settings.Settings.{Settings}
+use Rattle.audit.specs.Settings.{Held}
+use Rattle.audit.specs.Opening.{IndexLent, columns, wayOf}
+use Rattle.audit.specs.Observing.{MateRead, isSearched, readRow}
+use Rattle.audit.specs.Fragment.{Fragment, heldAfter}
+
+-- a refused call leaves state and counters as they were
+pub refused-holds : (q offset : ℕ) (c : Catalogue) (lent : IndexLent) (h : Held) (f : Fragment) (n : ℕ) → (n ≡ 0 → ⊥) → heldAfter q offset c lent h f n ≡ h
+refused-holds q offset c lent h f zero ne = absurd (ne refl)
+refused-holds q offset c lent h f (suc n) ne = refl
+
+module _ (q offset : ℕ) (s : Settings) (ss : List (List ℕ)) (ks rs os : List ℕ) (r : MateRead) (searched : isSearched offset s r ≡ true) where
+  -- a searched read of an audit with an index reports the work of the search by index
+  pub index-work : readRow offset s ss (wayOf q (columns ks rs os)) r .work ≡ work q ss (r .read .bases) (s .limit)
+  index-work = rw searched (by-test (ltb (s .limit) (length (groups ss (r .read .bases)))) (λ t. rw t) (λ t. rw t))
+
+  -- which compares the places of the compared list
+  pub index-comparisons : readRow offset s ss (wayOf q (columns ks rs os)) r .work .comparisons ≡ length (compared q ss (r .read .bases) (s .limit))
+  unfolding work
+  index-comparisons = ap (λ (w : MappingWork). w .comparisons) index-work
