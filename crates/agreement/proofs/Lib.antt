@@ -8,3 +8,4 @@ pub mod Placing
 pub mod Fragments
 pub mod Agreeing
 pub mod Demands
+pub mod Examples

@@ -1,3 +1,4 @@
 pub mod Placements
 pub mod Meaning
 pub mod Twins
+pub mod Examples

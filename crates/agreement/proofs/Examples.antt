@@ -1,0 +1,33 @@
+-- The worked examples hold: each is computed.
+-- Assumes nothing.
+use mathlib.Core.Path.{refl}
+use mathlib.Core.List.{List, [], _∷_, map}
+use Rattle.bases.specs.Base.{codeOf, complementOf, upperOf, isCapital}
+use Rattle.bases.specs.Read.{reverseComplement}
+use Rattle.bases.specs.Eligibility.{eligibility}
+use Rattle.catalogue.specs.Catalogue.{inBounds, catalogueRefusal, mapped}
+use Rattle.seeds.specs.Key.{keyOf}
+use Rattle.index.specs.Index.{indexOf}
+use Rattle.places.specs.Place.{places, matches, groups}
+use Rattle.candidates.specs.Search.{comparable}
+use Rattle.index_search.specs.Work.{work}
+use Rattle.indexed_mapper.specs.Board as board
+use Rattle.indexed_mapper.proofs.Board.{board-holds}
+use Rattle.ledger.specs.Booking.{countable}
+use Rattle.ledger.specs.Balance.{balanced}
+use Rattle.audit.specs.Opening.{openingRefusal}
+use Rattle.audit.specs.Fragment.{fragmentRefusal}
+use Rattle.audit.specs.Sheet.{finishRefusal}
+use Rattle.agreement.specs.Examples.{catchRun, RunHolds, examples, AllHold, mapper}
+
+catch-holds : RunHolds catchRun
+unfolding codeOf complementOf upperOf isCapital reverseComplement eligibility inBounds catalogueRefusal mapped keyOf indexOf places matches groups comparable work countable balanced openingRefusal fragmentRefusal finishRefusal
+catch-holds = record { opened = refl; answered = refl; listed = refl; finished = refl; counted = refl; by-target = refl; in-all = refl; worded = refl }
+
+mapper-holds : (xs : List board.Example) → board.AllHold xs → AllHold (map mapper xs)
+mapper-holds [] h = tt
+mapper-holds (x ∷ xs) h = (h .0, mapper-holds xs (h .1))
+
+-- every example of the table
+pub examples-hold : AllHold examples
+examples-hold = (catch-holds, mapper-holds board.examples board-holds)
