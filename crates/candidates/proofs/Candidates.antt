@@ -26,7 +26,7 @@ use Rattle.lists.proofs.Same.{same-true}
 use Rattle.lists.proofs.Part.{part-filter, part-stopped}
 use Rattle.lists.proofs.Triple.{Before, before-test, test-before}
 use Rattle.lists.specs.Numbers.{numbers}
-use Rattle.names.proofs.Merging.{numbers-∈}
+use Rattle.lists.proofs.Numbers.{numbers-∈}
 use Rattle.bases.specs.Base.{upperOf}
 use Rattle.bases.specs.Read.{folded, oriented}
 use Rattle.bases.proofs.Bytes.{code-upper}

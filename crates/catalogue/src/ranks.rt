@@ -11,7 +11,7 @@ ghost use Rattle.names.specs.Lent.{lentCut};
 ghost use Rattle.catalogue.specs.Ranking.{PlaceKept, Kept, MarkedNames, NamesRanked, RankedAs};
 use crate::bounds::all_proper;
 use crate::bounds::in_bounds;
-use names::order::order_names;
+use name_order::order_names;
 
 // A refusal, 2 to 4 for a catalogue and 1 for a seed length, or the number of mapped targets.
 pub enum Ranking {

@@ -17,8 +17,7 @@ use Rattle.lists.proofs.Member.{getD-∈, ∈-getD, ∈-map, map-∈}
 use Rattle.lists.proofs.Order.{ascending-map, later-differs}
 use Rattle.lists.proofs.Places.{getD-map}
 use Rattle.lists.proofs.Same.{same-true, true-same}
-use Rattle.names.specs.Name.{nameBefore}
-use Rattle.names.specs.Ordered.{placeBefore}
+use Rattle.names.specs.Name.{nameBefore, placeBefore}
 use Rattle.names.proofs.NameLaws.{place-order}
 use Rattle.catalogue.specs.Catalogue.{Catalogue, Target, Valid, names, targets, isMapped, byName, mapped, suppliedPlaces}
 use Rattle.catalogue.proofs.Mapped.{mapped-∈, ∈-mapped, mapped-ascending, named-by-place}
