@@ -7,14 +7,14 @@
 ghost use Prim.Native.Nat.{_+_, _*_, _<_, _≤_};
 ghost use mathlib.Core.Path.{_≡_};
 ghost use lib.ListN.{length};
+use answers::answer::MapAnswer;
+use answers::answer::Mapping;
+use answers::answer::state_number;
 use index_search::work::MappingWork;
 use indexed_mapper::map::map;
 use libc::STDIN_FILENO;
 use libc::STDOUT_FILENO;
-use postings::plan::build;
-use search::answer::MapAnswer;
-use search::answer::Mapping;
-use search::answer::state_number;
+use postings::build;
 
 // The numbers of a case that are no lengths of its lists.
 struct Call {

@@ -23,16 +23,17 @@ use Rattle.bases.proofs.Turning.{length-reverse-complement}
 use Rattle.catalogue.specs.Catalogue.{Catalogue, Valid, suppliedPlaces}
 use Rattle.seeds.specs.Seeds.{placed}
 use Rattle.index.specs.Index.{mappedSequences, planRefusal, indexRefusal}
-use Rattle.postings.proofs.Planning.{plan-right}
+use Rattle.planning.proofs.Planning.{plan-right}
 use Rattle.places.specs.Place.{Place, groups}
 use Rattle.places.proofs.Swapping.{groups-turned}
 use Rattle.candidates.proofs.Candidates.{comparable-fewer}
 use Rattle.scan.specs.Entries.{entriesOf, entryCount, cleared}
 use Rattle.scan.proofs.Going.{length-entries}
 use Rattle.index_search.specs.Work.{work, scanWork, Way, byIndex, plain, workBy}
-use Rattle.search.specs.Answer.{Row, answerOf, stateOf, listed, mappedRow, entriesAfter, roomRefusal, readEntries, SearchAnswered}
+use Rattle.answers.specs.Answer.{Row, answerOf, stateOf, listed, mappedRow, roomRefusal}
+use Rattle.search.specs.Answered.{SearchAnswered}
 use Rattle.index_search.specs.declared.work.MappingWork.{MappingWork}
-use Rattle.search.specs.declared.answer.MapAnswer.{MapAnswer}
+use Rattle.answers.specs.declared.answer.MapAnswer.{MapAnswer}
 use Rattle.indexed_mapper.specs.Map.{readRefusal, rankedRefusal, mapRefusal, MapsTo}
 use Rattle.indexed_mapper.specs.Match.{Match, Lists}
 use Rattle.indexed_mapper.specs.Laws.{SearchesAgree, turnedGroups, TurnedAnswer}

@@ -28,18 +28,19 @@ use Rattle.catalogue.proofs.Mapped.{mapped-∈, at-its-place}
 use Rattle.seeds.specs.Seeds.{keysOf, ranksOf, positionsOf}
 use Rattle.seeds.specs.Key.{SeedLength}
 use Rattle.index.specs.Index.{indexOf, mappedSequences, rankedSequences, seedRight, planRefusal, indexRefusal, columnsOf, Lent, Indexed}
-use Rattle.postings.specs.Answers.{PlanRanked}
-use Rattle.postings.proofs.Planning.{no-refusal, ranked-mapped, number, not-zero, test-refused}
+use Rattle.planning.specs.Answers.{PlanRanked}
+use Rattle.planning.proofs.Planning.{no-refusal, ranked-mapped, number, not-zero, test-refused}
 use Rattle.bases.specs.Read.{folded}
 use Rattle.places.specs.Place.{Place, maxRead, groups}
 use Rattle.scan.specs.Entries.{entryCount}
-use Rattle.search.specs.Bounds.{lengthRight, limitRight}
+use Rattle.answers.specs.Bounds.{lengthRight, limitRight}
 use Rattle.index_search.specs.Work.{byIndex}
-use Rattle.search.specs.Answer.{roomRefusal, SearchAnswered}
+use Rattle.answers.specs.Answer.{roomRefusal}
+use Rattle.search.specs.Answered.{SearchAnswered}
 use Rattle.index_search.specs.Steps.{IndexSearchable, Mappable}
 use Rattle.index_search.specs.declared.work.MappingWork.{MappingWork}
-use Rattle.search.specs.declared.answer.MapAnswer.{MapAnswer}
-use Rattle.search.specs.declared.answer.MapAnswer.the-variants as answers
+use Rattle.answers.specs.declared.answer.MapAnswer.{MapAnswer}
+use Rattle.answers.specs.declared.answer.MapAnswer.the-variants as answers
 use Rattle.indexed_mapper.specs.Map.{readRefusal, rankedRefusal, mapRefusal, RankedAnswered, ReadMapped, IndexMapped, MapsTo}
 
 -- ---- refusals of a read and a limit

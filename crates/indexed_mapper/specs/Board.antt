@@ -13,7 +13,7 @@ use Rattle.seeds.specs.Seeds.{keysOf, ranksOf, positionsOf}
 use Rattle.index.specs.Index.{index, mappedSequences}
 use Rattle.places.specs.Place.{Place, place, groups}
 use Rattle.index_search.specs.Work.{workOf}
-use Rattle.search.specs.Answer.{Row, row, listed}
+use Rattle.answers.specs.Answer.{Row, row, listed}
 use Rattle.index_search.specs.declared.work.MappingWork.{MappingWork}
 use Rattle.indexed_mapper.specs.Map.{mapAnswer}
 

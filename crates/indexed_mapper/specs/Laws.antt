@@ -6,7 +6,7 @@ use lib.ListN.{length, take}
 use Rattle.lists.specs.Sort.{sort}
 use Rattle.places.specs.Place.{Place, before, swapped}
 use Rattle.scan.specs.Entries.{entriesOf}
-use Rattle.search.specs.Answer.{Row, listed}
+use Rattle.answers.specs.Answer.{Row, listed}
 
 -- what the search by index answers and leaves in its entries, and the same of the search at every start: the same state,
 -- number of groups and listed groups, and no more comparisons
