@@ -6,7 +6,7 @@ ghost use lib.ListN.{length};
 ghost use lib.Dec.{ltb};
 ghost use Rattle.lists.specs.Filter.{every};
 ghost use Rattle.promises.specs.Slice.{old, new};
-ghost use Rattle.catalogue.specs.Catalogue.{lentCatalogue};
+ghost use Rattle.catalogue.specs.Catalogue.{lentCatalogue, maxTargets};
 ghost use Rattle.names.specs.Lent.{lentCut};
 ghost use Rattle.catalogue.specs.Ranking.{PlaceKept, Kept, MarkedNames, NamesRanked, RankedAs};
 use crate::bounds::all_proper;
@@ -66,7 +66,7 @@ pub fn rank_targets(
     base_ends: &[usize],
     marks: &[u8],
 ) -> Ranking
-    requires { ⌜ 4096 ≤ length (now ranked) ⌝ }
+    requires { ⌜ maxTargets ≤ length (now ranked) ⌝ }
     ensures { λ r. ⌜ RankedAs (lentCatalogue identifiers «identifier_ends» bases «base_ends» marks) r (new ranked) ⌝ }
 {
     if !in_bounds(identifiers, identifier_ends, bases, base_ends, marks) {

@@ -4,7 +4,7 @@ ghost use Prim.Native.Nat.{_≤_};
 ghost use lib.ListN.{length};
 ghost use Rattle.promises.specs.Refusal.{accepted};
 ghost use Rattle.promises.specs.Slice.{new};
-ghost use Rattle.catalogue.specs.Catalogue.{lentCatalogue};
+ghost use Rattle.catalogue.specs.Catalogue.{lentCatalogue, maxTargets};
 ghost use Rattle.index.specs.Index.{seedRight};
 ghost use Rattle.planning.specs.Answers.{planOutcome, planned, PlanRanked};
 use catalogue::ranks::Ranking;
@@ -49,7 +49,7 @@ pub fn rank_checked(
     marks: &[u8],
     q: usize,
 ) -> Ranking
-    requires { ⌜ 4096 ≤ length (now ranked) ⌝ }
+    requires { ⌜ maxTargets ≤ length (now ranked) ⌝ }
     ensures { λ r. ⌜ PlanRanked q (lentCatalogue identifiers «identifier_ends» bases «base_ends» marks) r (new ranked) ⌝ }
 {
     if !seed_length_right(q) {

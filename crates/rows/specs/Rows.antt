@@ -3,8 +3,6 @@ use mathlib.Core.List.{List, [], _∷_}
 use Prim.Native.Nat.{ℕ}
 use lib.ListN.{replicate}
 use Rattle.promises.specs.Refusal.{Outcome, refused, accepted}
-use Rattle.places.specs.Place.{groups}
-use Rattle.index_search.specs.Work.{work}
 use Rattle.answers.specs.Answer.{Row}
 use Rattle.index_search.specs.declared.work.MappingWork.{MappingWork}
 
