@@ -9,9 +9,7 @@ use lib.Seq.{drop-at, drop-drop}
 use borrow.Author.Tests.{lt-ltb, le-ltb}
 use Rattle.seeds.specs.Seeds.{placed}
 use Rattle.seeds.proofs.Storing.{length-placed}
-use Rattle.places.specs.Place.{groups}
 use Rattle.scan.specs.Entries.{entryCount, cleared}
-use Rattle.index_search.specs.Work.{work}
 use Rattle.answers.specs.Answer.{stateNumber, stateOf, Concluded}
 use Rattle.index_search.specs.declared.work.MappingWork.{MappingWork}
 use Rattle.answers.specs.declared.answer.MapAnswer.the-variants as answers

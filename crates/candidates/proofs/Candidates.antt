@@ -35,7 +35,7 @@ use Rattle.seeds.specs.Key.{keyOf}
 use Rattle.seeds.specs.Window.{starts}
 use Rattle.index.specs.Index.{indexOf, isSeed}
 use Rattle.index.proofs.Indexing.{index-ascending, index-∈-seed, seed-∈-index}
-use Rattle.places.specs.Place.{Place, Fits, place, triple, before, places, matches, groups}
+use Rattle.places.specs.Place.{Place, Fits, triple, before, places, matches, groups}
 use Rattle.places.proofs.Comparing.{oriented-folded}
 use Rattle.places.proofs.Placing.{before-order, before-total, place-eq, places-∈, ∈-places, places-ascending}
 use Rattle.candidates.specs.Search.{seedHits, seedCount, tried, fewest, rarest, chosen, lies, candidate, candidatesAt, candidates, comparable, compared}

@@ -6,7 +6,7 @@ use Rattle.bases.specs.Base.{A, C, G, T}
 use Rattle.bases.specs.Read.{given}
 use Rattle.bases.specs.Eligibility.{Verdict, ineligible, eligibility}
 use Rattle.bases.specs.Eligibility as judged
-use Rattle.promises.specs.Refusal.{Outcome, accepted}
+use Rattle.promises.specs.Refusal.{accepted}
 use Rattle.catalogue.specs.Catalogue.{Catalogue}
 use Rattle.columns.specs.Posting.{Posting, posting}
 use Rattle.seeds.specs.Seeds.{keysOf, ranksOf, positionsOf}

@@ -2,7 +2,7 @@
 use mathlib.Core.Path.{_≡_}
 use mathlib.Core.List.{List, map}
 use Prim.Native.Nat.{ℕ, _*_, _≤_}
-use lib.ListN.{length, take}
+use lib.ListN.{take}
 use Rattle.lists.specs.Sort.{sort}
 use Rattle.places.specs.Place.{Place, before, swapped}
 use Rattle.scan.specs.Entries.{entriesOf}

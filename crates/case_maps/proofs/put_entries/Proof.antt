@@ -1,10 +1,10 @@
--- `case_calls::put_entries` is safe and ends. The invariant: the place is at most the length.
+-- `case_maps::put_entries` is safe and ends. The invariant: the place is at most the length.
 -- Assumes nothing.
 use borrow.Author.Needs.{needs}
 use Prim.Native.Nat.{_≤_, _-_}
 use lib.ListN.{length}
-use Rattle.case_calls.proofs.put_entries.Statement.{statement}
-use Rattle.case_calls.proofs.put_entries.Tie as tie
+use Rattle.case_maps.proofs.put_entries.Statement.{statement}
+use Rattle.case_maps.proofs.put_entries.Tie as tie
 
 abbrev Inv-loop : tie.InvT-loop
 Inv-loop entries i₀ t3 t4 i = i ≤ length entries
