@@ -18,7 +18,7 @@ use Rattle.places.specs.Place.{Place, groups}
 use Rattle.places.proofs.Placing.{groups-∈}
 use Rattle.scan.specs.Entries.{entryCount}
 use Rattle.index_search.specs.Work.{Way, workBy}
-use Rattle.search.specs.Answer.{row, stateOf, mappedRow}
+use Rattle.answers.specs.Answer.{row, stateOf, mappedRow}
 use Rattle.ledger.specs.Booking.{Booked}
 use Rattle.ledger.specs.Counting.{Bookable}
 use Rattle.audit.specs.declared.settings.MateRole.{MateRole}

@@ -18,7 +18,7 @@ use Rattle.names.specs.Ordered.{placeBefore}
 use Rattle.catalogue.specs.Catalogue.{Catalogue, Target, Valid, names, sequences, targetsFrom, targets, isMapped, catalogueRefusal, mapped, suppliedPlaces}
 use Rattle.catalogue.proofs.Mapped.{mapped-∈, ∈-mapped}
 use Rattle.catalogue.proofs.Refusals.{valid}
-use Rattle.search.specs.Bounds.{limitRight}
+use Rattle.answers.specs.Bounds.{limitRight}
 use Rattle.indexed_mapper.specs.Match.{rankOf}
 use Rattle.indexed_mapper.proofs.Matching.{places-ascend, rank-is}
 use Rattle.ledger.specs.Booking.{Counters}

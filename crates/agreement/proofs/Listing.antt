@@ -11,7 +11,7 @@ use Rattle.seeds.specs.Seeds.{placed}
 use Rattle.index.specs.Index.{mappedSequences}
 use Rattle.scan.specs.Entries.{entryCount, cleared}
 use Rattle.index_search.specs.Work.{Way, workBy}
-use Rattle.search.specs.Answer.{Row}
+use Rattle.answers.specs.Answer.{Row}
 use Rattle.indexed_mapper.specs.Match.{Lists}
 use Rattle.indexed_mapper.proofs.Laws.{row-lists}
 use Rattle.audit.specs.declared.settings.Settings.{Settings}

@@ -19,7 +19,7 @@ use Rattle.promises.proofs.Refusing.{outcome-accepted}
 use Rattle.names.specs.Name.{distinctNames}
 use Rattle.catalogue.specs.Catalogue.{Catalogue, Target, Valid, targets, names, sequences, isMapped, mapped, suppliedPlaces, inBounds, properSequence, catalogueRefusal}
 use Rattle.index.specs.Index.{mappedSequences}
-use Rattle.search.specs.Bounds.{limitRight}
+use Rattle.answers.specs.Bounds.{limitRight}
 use Rattle.indexed_mapper.specs.Match.{rankOf}
 use Rattle.ledger.specs.Booking.{Booked, Counters, bookedAll, emptyLedger, emptyCounters, maxCounter, countable}
 use Rattle.ledger.specs.Balance.{sum, countOf, balanced}

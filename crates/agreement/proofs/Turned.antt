@@ -21,8 +21,8 @@ use Rattle.places.specs.Place.{Place, place, placesIn, placesFrom, places, matc
 use Rattle.places.proofs.Swapping.{matches-turned}
 use Rattle.candidates.proofs.Candidates.{comparable-fewer}
 use Rattle.index_search.specs.Work.{work, scanWork, Way, byIndex, plain, workBy}
-use Rattle.search.specs.Bounds.{lengthRight}
-use Rattle.search.specs.Answer.{stateOf, listed}
+use Rattle.answers.specs.Bounds.{lengthRight}
+use Rattle.answers.specs.Answer.{stateOf, listed}
 use Rattle.indexed_mapper.specs.Laws.{turnedGroups}
 use Rattle.indexed_mapper.proofs.Laws.{row-groups, row-work, number-turned, listed-turned}
 use Rattle.ledger.specs.Booking.{targetsOf}

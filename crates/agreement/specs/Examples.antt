@@ -10,7 +10,7 @@ use Rattle.promises.specs.Refusal.{Outcome, accepted}
 use Rattle.bases.specs.Base.{A, C, G, T}
 use Rattle.bases.specs.Read.{absent}
 use Rattle.catalogue.specs.Catalogue.{Catalogue, targets}
-use Rattle.search.specs.Answer.{Row, row}
+use Rattle.answers.specs.Answer.{Row, row}
 use Rattle.indexed_mapper.specs.Board as board
 use Rattle.audit.specs.declared.settings.AuditInputMode.the-variants as modes
 use Rattle.audit.specs.declared.settings.MateRole.the-variants as roles

@@ -9,7 +9,7 @@ use Rattle.lists.specs.Triple.{Triple}
 use Rattle.promises.specs.Refusal.{accepted}
 use Rattle.catalogue.specs.Catalogue.{Catalogue, Target, targets, isMapped, suppliedPlaces}
 use Rattle.scan.specs.Entries.{entryCount}
-use Rattle.search.specs.Answer.{Row}
+use Rattle.answers.specs.Answer.{Row}
 use Rattle.indexed_mapper.specs.Match.{Lists, rankOf}
 use Rattle.ledger.specs.Booking.{Booked, Counters}
 use Rattle.ledger.specs.Balance.{sum, countOf}

@@ -8,7 +8,7 @@ use Rattle.promises.specs.Refusal.{Outcome, refused, accepted}
 use Rattle.bases.specs.Read.{turned}
 use Rattle.catalogue.specs.Catalogue.{Catalogue}
 use Rattle.scan.specs.Entries.{entryCount}
-use Rattle.search.specs.Answer.{Row}
+use Rattle.answers.specs.Answer.{Row}
 use Rattle.audit.specs.declared.settings.Settings.{Settings}
 use Rattle.audit.specs.declared.sheet.Sheet.{Sheet}
 use Rattle.audit.specs.Settings.{Held}

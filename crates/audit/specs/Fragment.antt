@@ -9,7 +9,7 @@ use Rattle.catalogue.specs.Catalogue.{Catalogue, suppliedPlaces}
 use Rattle.seeds.specs.Seeds.{placed}
 use Rattle.index.specs.Index.{mappedSequences}
 use Rattle.scan.specs.Entries.{entryCount, cleared}
-use Rattle.search.specs.Answer.{Row}
+use Rattle.answers.specs.Answer.{Row}
 use Rattle.ledger.specs.Booking.{Booked, Books, bookedAll, countable}
 use Rattle.audit.specs.declared.settings.AuditInputMode.{AuditInputMode}
 use Rattle.audit.specs.declared.settings.AuditInputMode.the-variants as modes

@@ -9,8 +9,8 @@ use Rattle.bases.specs.Eligibility.{Verdict, refused, ineligible, eligible, eli
 use Rattle.places.specs.Place.{Place, groups}
 use Rattle.scan.specs.Entries.{entriesOf}
 use Rattle.index_search.specs.Work.{Way, workOf, workBy}
-use Rattle.search.specs.Bounds.{lengthRight}
-use Rattle.search.specs.Answer.{Row, row, listed, mappedRow, roomRefusal}
+use Rattle.answers.specs.Bounds.{lengthRight}
+use Rattle.answers.specs.Answer.{Row, row, listed, mappedRow, roomRefusal}
 use Rattle.index_search.specs.declared.work.MappingWork.{MappingWork}
 use Rattle.ledger.specs.Booking.{Booked}
 use Rattle.audit.specs.declared.settings.MateRole.{MateRole}

@@ -8,7 +8,7 @@ use Rattle.promises.specs.Refusal.{unless, _orElse_}
 use Rattle.catalogue.specs.Catalogue.{Catalogue, targets, catalogueRefusal}
 use Rattle.index.specs.Index.{index, columnsOf}
 use Rattle.index_search.specs.Work.{Way, byIndex, plain}
-use Rattle.search.specs.Bounds.{limitRight}
+use Rattle.answers.specs.Bounds.{limitRight}
 use Rattle.ledger.specs.Booking.{Counters, emptyCounters}
 use Rattle.audit.specs.declared.settings.Settings.{Settings}
 use Rattle.audit.specs.Settings.{Held, floorRight, freshState, zeroState}

@@ -4,7 +4,7 @@ use Prim.Native.Nat.{ℕ, zero, suc}
 use Rattle.promises.specs.Refusal.{Outcome}
 use Rattle.catalogue.specs.Catalogue.{Catalogue}
 use Rattle.scan.specs.Entries.{entryCount}
-use Rattle.search.specs.Answer.{Row}
+use Rattle.answers.specs.Answer.{Row}
 use Rattle.ledger.specs.Booking.{Booked}
 use Rattle.audit.specs.Settings.{Held}
 use Rattle.audit.specs.Opening.{IndexLent}

@@ -26,7 +26,7 @@ use Rattle.lists.proofs.Same.{same-true}
 use Rattle.lists.proofs.Part.{part-filter, part-stopped}
 use Rattle.lists.proofs.Triple.{Before, before-test, test-before}
 use Rattle.lists.specs.Numbers.{numbers}
-use Rattle.names.proofs.Merging.{numbers-∈}
+use Rattle.lists.proofs.Numbers.{numbers-∈}
 use Rattle.bases.specs.Base.{upperOf}
 use Rattle.bases.specs.Read.{folded, oriented}
 use Rattle.bases.proofs.Bytes.{code-upper}
@@ -35,7 +35,7 @@ use Rattle.seeds.specs.Key.{keyOf}
 use Rattle.seeds.specs.Window.{starts}
 use Rattle.index.specs.Index.{indexOf, isSeed}
 use Rattle.index.proofs.Indexing.{index-ascending, index-∈-seed, seed-∈-index}
-use Rattle.places.specs.Place.{Place, Fits, place, triple, before, places, matches, groups}
+use Rattle.places.specs.Place.{Place, Fits, triple, before, places, matches, groups}
 use Rattle.places.proofs.Comparing.{oriented-folded}
 use Rattle.places.proofs.Placing.{before-order, before-total, place-eq, places-∈, ∈-places, places-ascending}
 use Rattle.candidates.specs.Search.{seedHits, seedCount, tried, fewest, rarest, chosen, lies, candidate, candidatesAt, candidates, comparable, compared}

@@ -1,9 +1,9 @@
 -- The seed that a search starts from, its candidates, and the list that is compared (REFERENCE.md, "Mapping").
 use mathlib.Core.Path.{_≡_}
-use mathlib.Core.Bool.{Bool, true, false, cond, _&&_}
+use mathlib.Core.Bool.{Bool, cond, _&&_}
 use mathlib.Core.List.{List, [], _∷_, map}
-use Prim.Native.Nat.{ℕ, suc, _+_, _-_}
-use lib.ListN.{length, getD, take}
+use Prim.Native.Nat.{ℕ, _-_}
+use lib.ListN.{length, getD}
 use lib.Dec.{eqb, leb, ltb}
 use Rattle.lists.specs.Filter.{filter}
 use Rattle.lists.specs.Sort.{merge}

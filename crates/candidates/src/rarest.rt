@@ -1,11 +1,11 @@
 // The rarest seed of a read on a strand: the first offset with fewest postings.
-ghost use mathlib.Core.Path.{_≡_};
 ghost use Prim.Native.Nat.{_+_, _≤_};
 ghost use lib.ListN.{length};
 ghost use Rattle.promises.specs.Slice.{old};
 ghost use Rattle.bases.specs.Read.{oriented};
 ghost use Rattle.seeds.specs.Key.{SeedIn};
 ghost use Rattle.lookup.specs.Range.{Rising};
+ghost use Rattle.places.specs.Place.{maxRead};
 ghost use Rattle.candidates.specs.Search.{Rarest};
 ghost use Rattle.candidates.specs.Choosing.{Better};
 use lookup::lookup::Range;
@@ -25,7 +25,7 @@ pub struct SeedChoice {
 impl SeedChoice {
     // The rarer of this seed and one more that was looked up; of equals this one.
     fn or(self, offset: usize, range: Range) -> SeedChoice
-        requires { ⌜ (self .start ≤ self .end) × ((range .start ≤ range .end) × (self .lookups + 1 ≤ 65536)) ⌝ }
+        requires { ⌜ (self .start ≤ self .end) × ((range .start ≤ range .end) × (self .lookups + 1 ≤ maxRead + 1)) ⌝ }
         ensures { λ r. ⌜ Better (self .offset) (self .start) (self .end) (self .lookups) offset (range .start) (range .end) (r .offset) (r .start) (r .end) (r .lookups) ⌝ }
     {
         let lookups = self.lookups + 1;
@@ -48,7 +48,7 @@ impl SeedChoice {
 
 // Looks the seeds of a read up, offset by offset, and stops after a lookup that finds none.
 pub fn rarest_seed(read: &[u8], strand: u64, keys: &[u64], q: usize) -> SeedChoice
-    requires { ⌜ SeedIn (now read) q 0 × (Rising (now keys) × (length (now read) ≤ 65535)) ⌝ }
+    requires { ⌜ SeedIn (now read) q 0 × (Rising (now keys) × (length (now read) ≤ maxRead)) ⌝ }
     ensures { λ r. ⌜ Rarest (old keys) q (oriented strand (old read)) (r .offset) (r .start) (r .end) (r .lookups) ⌝ }
 {
     let n = read.len() - q + 1;

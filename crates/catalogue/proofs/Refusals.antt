@@ -16,14 +16,13 @@ use Rattle.lists.proofs.Every.{∈-every}
 use Rattle.lists.proofs.Sort.{sort-∈}
 use Rattle.promises.specs.Refusal.{unless, _orElse_, refused, accepted, outcome}
 use Rattle.promises.proofs.Refusing.{none-first, none-second, passed, outcome-accepted}
-use Rattle.names.specs.Name.{distinctNames}
+use Rattle.names.specs.Name.{distinctNames, placeBefore}
 use Rattle.lists.specs.Numbers.{numbers}
-use Rattle.names.specs.Ordered.{placeBefore}
 use Rattle.catalogue.specs.Catalogue.{Catalogue, Valid, names, sequences, inBounds, properSequence, catalogueRefusal, mapped}
 use Rattle.catalogue.specs.Ranking.{rankingOutcome, Kept, linearPlaces, NamesRanked, RankedAs}
 use Rattle.catalogue.specs.declared.ranks.Ranking.{Ranking}
 use Rattle.catalogue.specs.declared.ranks.Ranking.the-variants.{Refused, Ranked}
-use Rattle.names.proofs.Merging.{numbers-∈}
+use Rattle.lists.proofs.Numbers.{numbers-∈}
 use Rattle.catalogue.proofs.Mapped.{places-mapped}
 
 -- the places of an order are below the number of names

@@ -6,12 +6,12 @@ ghost use lib.ListN.{length};
 ghost use lib.Dec.{ltb};
 ghost use Rattle.lists.specs.Filter.{every};
 ghost use Rattle.promises.specs.Slice.{old, new};
-ghost use Rattle.catalogue.specs.Catalogue.{lentCatalogue};
+ghost use Rattle.catalogue.specs.Catalogue.{lentCatalogue, maxTargets};
 ghost use Rattle.names.specs.Lent.{lentCut};
 ghost use Rattle.catalogue.specs.Ranking.{PlaceKept, Kept, MarkedNames, NamesRanked, RankedAs};
 use crate::bounds::all_proper;
 use crate::bounds::in_bounds;
-use names::order::order_names;
+use name_order::order_names;
 
 // A refusal, 2 to 4 for a catalogue and 1 for a seed length, or the number of mapped targets.
 pub enum Ranking {
@@ -66,7 +66,7 @@ pub fn rank_targets(
     base_ends: &[usize],
     marks: &[u8],
 ) -> Ranking
-    requires { ⌜ 4096 ≤ length (now ranked) ⌝ }
+    requires { ⌜ maxTargets ≤ length (now ranked) ⌝ }
     ensures { λ r. ⌜ RankedAs (lentCatalogue identifiers «identifier_ends» bases «base_ends» marks) r (new ranked) ⌝ }
 {
     if !in_bounds(identifiers, identifier_ends, bases, base_ends, marks) {

@@ -3,22 +3,24 @@
 use mathlib.Core.Path.{_≡_, refl, sym, ap, _∙_}
 use mathlib.Core.List.{List}
 use Prim.Native.Nat.{ℕ, _<_, _≤_}
-use lib.ListN.{length, getD}
+use lib.ListN.{length}
 use borrow.Author.Tests.{le-leb, lt-leb}
-use Rattle.promises.specs.Refusal.{Outcome, refused, accepted, numberOf, outcome}
+use Rattle.promises.specs.Refusal.{Outcome, numberOf, outcome}
 use Rattle.promises.proofs.Refusing.{number-is}
 use Rattle.catalogue.specs.Catalogue.{Catalogue, mapped}
 use Rattle.seeds.specs.Seeds.{keysOf, ranksOf, positionsOf, placed}
 use Rattle.index.specs.Index.{index, planRefusal, buildRefusal}
-use Rattle.postings.specs.Answers.{planOutcome, planned, builtOutcome, entries, leftIn, BuiltAs}
-use Rattle.postings.specs.declared.plan.IndexPlan.{IndexPlan}
-use Rattle.postings.specs.declared.plan.Built.{Built}
+use Rattle.planning.specs.Answers.{planOutcome, planned}
+use Rattle.postings.specs.Answers.{builtOutcome, entries, leftIn, BuiltAs}
+use Rattle.planning.specs.declared.IndexPlan.{IndexPlan}
+use Rattle.postings.specs.declared.Built.{Built}
 use Rattle.scan.specs.Entries.{entryCount}
-use Rattle.search.specs.Answer.{Row, answerOf}
-use Rattle.search.specs.declared.answer.MapAnswer.{MapAnswer}
+use Rattle.answers.specs.Answer.{answerOf}
+use Rattle.answers.specs.declared.answer.MapAnswer.{MapAnswer}
 use Rattle.indexed_mapper.specs.Map.{mapRefusal, MapsTo}
-use Rattle.many_reads.specs.Reads.{rowNumbers}
-use Rattle.exports.specs.Exports.{planNumbers, buildNumbers, Put, exportRefusal, answered, ExportsPlan, ExportsBuild, ExportsMap}
+use Rattle.rows.specs.Rows.{rowNumbers}
+use Rattle.replies.specs.Replies.{planNumbers, buildNumbers, Put}
+use Rattle.exports.specs.Exports.{exportRefusal, answered, ExportsPlan, ExportsBuild, ExportsMap}
 
 -- ---- the buffer of the answer
 
@@ -50,11 +52,6 @@ module _ {A : Type 0} (n : ℕ) (answer : List ℕ) (room : n ≤ length answer)
 
   put-numbers : answer′ ≡ answered n (numbers (outcome refusal a)) answer
   put-numbers = w .written ∙ ap (λ x. placed 0 (numbers x) answer) e ∙ answered-room n (numbers (outcome refusal a)) answer room
-
--- the first number of a row is its refusal
-pub row-number : (o : Outcome Row) (b : List ℕ) → getD (placed 0 (rowNumbers o) b) 0 0 ≡ numberOf o
-row-number (refused n) b = refl
-row-number (accepted a) b = refl
 
 -- ---- plan
 

@@ -1,38 +1,22 @@
 -- What the exported calls return and write (REFERENCE.md, "Exports").
 use mathlib.Core.Path.{_≡_}
 use mathlib.Core.Bool.{cond}
-use mathlib.Core.List.{List, [], _∷_}
+use mathlib.Core.List.{List}
 use Prim.Native.Nat.{ℕ}
 use lib.ListN.{length}
 use lib.Dec.{leb}
-use Rattle.promises.specs.Refusal.{unless, _orElse_, Outcome, refused, accepted, numberOf, outcome}
+use Rattle.promises.specs.Refusal.{unless, _orElse_, outcome}
 use Rattle.catalogue.specs.Catalogue.{Catalogue}
 use Rattle.seeds.specs.Seeds.{keysOf, ranksOf, positionsOf, placed}
 use Rattle.index.specs.Index.{index, planRefusal, buildRefusal}
-use Rattle.postings.specs.Answers.{planned, entries, leftIn}
-use Rattle.postings.specs.declared.plan.Counts.{Counts}
+use Rattle.planning.specs.Answers.{planned}
+use Rattle.postings.specs.Answers.{entries, leftIn}
 use Rattle.scan.specs.Entries.{entryCount}
 use Rattle.indexed_mapper.specs.Map.{mapRefusal, mapAnswer, mapEntries}
-use Rattle.many_reads.specs.Reads.{rowNumbers}
-
--- ---- answers as numbers; all but the first are zero where the call is refused
-
--- refusal, mapped targets, postings
-abbrev pub planNumbers : Outcome Counts → List ℕ
-planNumbers (refused n) = n ∷ 0 ∷ 0 ∷ []
-planNumbers (accepted k) = 0 ∷ k .targets ∷ k .postings ∷ []
-
--- refusal, postings built
-abbrev pub buildNumbers : Outcome ℕ → List ℕ
-buildNumbers (refused n) = n ∷ 0 ∷ []
-buildNumbers (accepted k) = 0 ∷ k ∷ []
+use Rattle.rows.specs.Rows.{rowNumbers}
+use Rattle.replies.specs.Replies.{planNumbers, buildNumbers}
 
 -- ---- the buffer of the answer
-
--- the numbers of an outcome are written at the front of a buffer with room for them, and its refusal is returned
-pub record Put {A : Type 0} (numbers : Outcome A → List ℕ) (o : Outcome A) (r : ℕ) (answer answer′ : List ℕ) : Type 0 where
-  pub number : r ≡ numberOf o
-  pub written : answer′ ≡ placed 0 (numbers o) answer
 
 -- 26 where the buffer is shorter than n numbers, else the refusal
 unfoldable pub exportRefusal : ℕ → List ℕ → ℕ → ℕ

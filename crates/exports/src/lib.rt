@@ -2,75 +2,21 @@
 // and a length. Each call returns the number of its refusal, 0 for none, and writes its answer as numbers at the front of
 // `answer`; where that is too short the call returns 26 and writes nothing at all.
 ghost use mathlib.Core.Path.{_≡_};
-ghost use Prim.Native.Nat.{_≤_};
-ghost use lib.ListN.{length};
 ghost use Rattle.promises.specs.Slice.{old, new};
 ghost use Rattle.catalogue.specs.Catalogue.{lentCatalogue};
 ghost use Rattle.index.specs.Index.{indexRefusal};
-ghost use Rattle.postings.specs.Answers.{planOutcome, builtOutcome};
-ghost use Rattle.search.specs.Answer.{answerOf};
-ghost use Rattle.many_reads.specs.Reads.{rowNumbers, MapsReads};
-ghost use Rattle.exports.specs.Exports.{planNumbers, buildNumbers, Put, ExportsPlan, ExportsBuild, ExportsMap};
+ghost use Rattle.many_reads.specs.Reads.{MapsReads};
+ghost use Rattle.exports.specs.Exports.{ExportsPlan, ExportsBuild, ExportsMap};
 use indexed_mapper::map::map;
 use many_reads::map_reads;
-use many_reads::write_row;
-use postings::plan::Built;
-use postings::plan::IndexPlan;
-use postings::plan::build;
-use postings::plan::check_index;
-use postings::plan::plan;
-use search::answer::MapAnswer;
+use planning::plan;
+use postings::build;
+use postings::check_index;
+use replies::put_answer;
+use replies::put_built;
+use replies::put_plan;
 
-// Writes the answer of a plan, and returns its refusal.
-fn put_plan(answer: &mut [u64], planned: IndexPlan) -> u64
-    requires { ⌜ 3 ≤ length (now answer) ⌝ }
-    ensures { λ r. ⌜ Put planNumbers (planOutcome planned) r (old answer) (new answer) ⌝ }
-{
-    match planned {
-        IndexPlan::Refused(n) => {
-            answer[0] = n;
-            answer[1] = 0;
-            answer[2] = 0;
-            n
-        }
-        IndexPlan::Planned(counts) => {
-            answer[0] = 0;
-            answer[1] = counts.targets as u64;
-            answer[2] = counts.postings as u64;
-            0
-        }
-    }
-}
-
-// Writes the answer of a build, and returns its refusal.
-fn put_built(answer: &mut [u64], built: Built) -> u64
-    requires { ⌜ 2 ≤ length (now answer) ⌝ }
-    ensures { λ r. ⌜ Put buildNumbers (builtOutcome built) r (old answer) (new answer) ⌝ }
-{
-    match built {
-        Built::Refused(refusal) => {
-            answer[0] = refusal;
-            answer[1] = 0;
-            refusal
-        }
-        Built::Built(n) => {
-            answer[0] = 0;
-            answer[1] = n as u64;
-            0
-        }
-    }
-}
-
-// Writes the answer of `map`, and returns its refusal.
-fn put_answer(answer: &mut [u64], mapped: MapAnswer) -> u64
-    requires { ⌜ 8 ≤ length (now answer) ⌝ }
-    ensures { λ r. ⌜ Put rowNumbers (answerOf mapped) r (old answer) (new answer) ⌝ }
-{
-    write_row(answer, 0, mapped);
-    answer[0]
-}
-
-// `postings::plan::plan`. The answer: refusal, mapped targets, postings.
+// `planning::plan`. The answer: refusal, mapped targets, postings.
 #[no_mangle]
 pub extern "C" fn jekaumeo_plan(
     answer: &mut [u64],
@@ -90,7 +36,7 @@ pub extern "C" fn jekaumeo_plan(
     put_plan(answer, planned)
 }
 
-// `postings::plan::build`. The answer: refusal, postings.
+// `postings::build`. The answer: refusal, postings.
 #[no_mangle]
 pub extern "C" fn jekaumeo_build(
     answer: &mut [u64],
@@ -123,7 +69,7 @@ pub extern "C" fn jekaumeo_build(
     put_built(answer, built)
 }
 
-// `postings::plan::check_index`.
+// `postings::check_index`.
 #[no_mangle]
 pub extern "C" fn jekaumeo_check_index(
     keys: &[u64],

@@ -4,7 +4,7 @@ use mathlib.Core.Path.{_≡_, refl, sym, ap, ap₂, _∙_}
 use mathlib.Core.Bool.{Bool, true, false, cond, not, _||_}
 use mathlib.Core.List.{List, [], _∷_, _++_, append-nil, append-assoc}
 use mathlib.Core.Logic.{inl, inr}
-use Prim.Native.Nat.{ℕ, _+_, _-_, _*_, _≤_, _<_}
+use Prim.Native.Nat.{ℕ, _+_, _*_, _≤_, _<_}
 use native.Mathlib.Omega.{arith}
 use lib.ListN.{length, length-append}
 use borrow.Author.Tests.{le-ltb, eq-eqb, ne-eqb}
@@ -18,9 +18,9 @@ use Rattle.lists.proofs.Sort.{merge-left, merge-right}
 use Rattle.lists.proofs.Member.{∈-append-right}
 use Rattle.bases.specs.Read.{oriented}
 use Rattle.index.specs.Index.{indexOf, Indexed, maxStarts}
-use Rattle.places.specs.Place.{Place, place, Fits, before, places}
+use Rattle.places.specs.Place.{Place, place, Fits, before}
 use Rattle.places.proofs.Placing.{before-order, before-total, places-∈}
-use Rattle.candidates.specs.Search.{chosen, candidatesAt, candidates, comparable, Rarest}
+use Rattle.candidates.specs.Search.{candidatesAt, candidates, comparable, Rarest}
 use Rattle.candidates.specs.Cursor.{plusFirst, BothTaken, OneMoved}
 use Rattle.candidates.specs.declared.rarest.SeedChoice.{SeedChoice}
 use Rattle.candidates.specs.declared.cursor.OrientationCursor.{OrientationCursor}

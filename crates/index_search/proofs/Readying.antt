@@ -2,7 +2,7 @@
 -- Assumes nothing.
 use mathlib.Core.Path.{_≡_, refl, ap}
 use mathlib.Core.List.{List}
-use Prim.Native.Nat.{ℕ, zero, suc, _*_, _≤_}
+use Prim.Native.Nat.{ℕ, zero, suc, _+_, _*_, _≤_}
 use native.Mathlib.Omega.{arith}
 use lib.ListN.{length}
 use lib.Dec.{eqb}
@@ -17,6 +17,7 @@ use Rattle.lookup.specs.Range.{Rising}
 use Rattle.index.specs.Index.{indexOf, rankedSequences, maxStarts}
 use Rattle.index.proofs.Hits.{index-rising}
 use Rattle.index.proofs.Sequencing.{ranked-many}
+use Rattle.places.specs.Place.{maxRead}
 use Rattle.candidates.specs.Search.{offsetCount, Rarest}
 use Rattle.candidates.specs.Cursor.{CursorIn, CursorsIn}
 use Rattle.candidates.specs.declared.rarest.SeedChoice.{SeedChoice}
@@ -49,7 +50,7 @@ module _ (q : ℕ) (bases ends ranked ks rs os read : List ℕ) (ready : IndexSe
     pub ready-chosen : (bound : ℕ) (buffer : List ℕ) → 4 * bound ≤ length buffer → Chosen q (rankedSequences bases ends ranked) read ks rs os plus minus bound buffer
     ready-chosen bound buffer room = record { some = ready .seed .some; long = long; indexed = ready .indexed; plus-chosen = p; minus-chosen = m; room = room; few = ready-few }
 
-    lookups-few : (strand : ℕ) (choice : SeedChoice) → Rarest ks q (oriented strand read) (choice .offset) (choice .start) (choice .end) (choice .lookups) → choice .lookups ≤ 65536
+    lookups-few : (strand : ℕ) (choice : SeedChoice) → Rarest ks q (oriented strand read) (choice .offset) (choice .start) (choice .end) (choice .lookups) → choice .lookups ≤ maxRead + 1
     lookups-few strand choice r =
         omega (arith, r .lookups-are, length-stopped (λ o. eqb (offsetCount ks q (oriented strand read) o) 0) (numbers 0 (starts q (oriented strand read))) 0, length-numbers 0 (starts q (oriented strand read)), length-oriented strand read, ready .searchable .short)
 

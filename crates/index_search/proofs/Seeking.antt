@@ -8,7 +8,6 @@ use lib.ListN.{length, getD, length-map, length-append}
 use lib.Dec.{eqb}
 use borrow.Author.Tests.{ltb-true, le-ltb}
 use Rattle.lists.specs.Filter.{filter}
-use Rattle.lists.specs.Member.{_∈_}
 use Rattle.lists.specs.Cut.{window}
 use Rattle.lists.proofs.Cases.{by-test, and-true}
 use Rattle.lists.proofs.Filter.{length-filter}

@@ -6,7 +6,7 @@ use lib.ListN.{length, take}
 use Rattle.seeds.specs.Seeds.{placed}
 use Rattle.seeds.specs.Key.{SeedLength}
 use Rattle.index.specs.Index.{rankedSequences, Lent, Indexed}
-use Rattle.places.specs.Place.{groups}
+use Rattle.places.specs.Place.{groups, maxRead}
 use Rattle.candidates.specs.declared.rarest.SeedChoice.{SeedChoice}
 use Rattle.candidates.specs.declared.cursor.OrientationCursor.{OrientationCursor}
 use Rattle.candidates.specs.declared.cursor.Candidate.{Candidate}
@@ -39,7 +39,7 @@ pub record Spans (choice : SeedChoice) (side : Candidate) : Type 0 where
   pub from : choice .start ≤ side .cursor .next
   pub upto : side .cursor .next ≤ choice .end
   pub most : choice .end ≤ maxCount
-  pub lookups : choice .lookups ≤ 65536
+  pub lookups : choice .lookups ≤ maxRead + 1
 
 -- what mapping reads is lent: sequences, and columns that are their index
 pub record Mappable (q : ℕ) (bases ends ranked ks rs os : List ℕ) : Type 0 where

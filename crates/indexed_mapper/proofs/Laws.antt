@@ -3,18 +3,18 @@
 use mathlib.Core.Path.{_≡_, refl, sym, ap, ap₂, subst, _∙_}
 use mathlib.Core.Bool.{Bool, true, false, _&&_}
 use mathlib.Core.Logic.{_↔_}
-use mathlib.Core.List.{List, [], _∷_, _++_, map}
-use Prim.Native.Nat.{ℕ, zero, suc, _+_, _*_, _<_, _≤_}
+use mathlib.Core.List.{List, [], _∷_, map}
+use Prim.Native.Nat.{ℕ, zero, suc, _*_, _<_, _≤_}
 use native.Mathlib.Omega.{arith}
-use lib.ListN.{length, take, drop, length-map}
+use lib.ListN.{length, take, length-map}
 use lib.Seq.{take-at}
 use lib.Dec.{ltb}
-use borrow.Author.Tests.{ne-eqb, lt-ltb, ltb-true}
+use borrow.Author.Tests.{lt-ltb, ltb-true}
 use Rattle.lists.specs.Filter.{every}
 use Rattle.lists.proofs.Cases.{by-test, same-test}
 use Rattle.lists.proofs.Reverse.{every-reverse}
 use Rattle.lists.proofs.Sort.{length-sort}
-use Rattle.promises.specs.Refusal.{_orElse_, Outcome, refused, accepted, outcome}
+use Rattle.promises.specs.Refusal.{refused, accepted}
 use Rattle.promises.proofs.Refusing.{none-first, outcome-accepted, outcome-number}
 use Rattle.bases.specs.Base.{complementOf, isCapital}
 use Rattle.bases.specs.Read.{reverseComplement}
@@ -23,18 +23,19 @@ use Rattle.bases.proofs.Turning.{length-reverse-complement}
 use Rattle.catalogue.specs.Catalogue.{Catalogue, Valid, suppliedPlaces}
 use Rattle.seeds.specs.Seeds.{placed}
 use Rattle.index.specs.Index.{mappedSequences, planRefusal, indexRefusal}
-use Rattle.postings.proofs.Planning.{plan-right}
+use Rattle.planning.proofs.Planning.{plan-right}
 use Rattle.places.specs.Place.{Place, groups}
 use Rattle.places.proofs.Swapping.{groups-turned}
 use Rattle.candidates.proofs.Candidates.{comparable-fewer}
 use Rattle.scan.specs.Entries.{entriesOf, entryCount, cleared}
 use Rattle.scan.proofs.Going.{length-entries}
 use Rattle.index_search.specs.Work.{work, scanWork, Way, byIndex, plain, workBy}
-use Rattle.search.specs.Answer.{Row, answerOf, stateOf, listed, mappedRow, entriesAfter, roomRefusal, readEntries, SearchAnswered}
+use Rattle.answers.specs.Answer.{Row, answerOf, stateOf, listed, mappedRow, roomRefusal}
+use Rattle.search.specs.Answered.{SearchAnswered}
 use Rattle.index_search.specs.declared.work.MappingWork.{MappingWork}
-use Rattle.search.specs.declared.answer.MapAnswer.{MapAnswer}
+use Rattle.answers.specs.declared.answer.MapAnswer.{MapAnswer}
 use Rattle.indexed_mapper.specs.Map.{readRefusal, rankedRefusal, mapRefusal, MapsTo}
-use Rattle.indexed_mapper.specs.Match.{Match, Lists}
+use Rattle.indexed_mapper.specs.Match.{Lists}
 use Rattle.indexed_mapper.specs.Laws.{SearchesAgree, turnedGroups, TurnedAnswer}
 use Rattle.indexed_mapper.proofs.Mapping.{at-capitals}
 use Rattle.indexed_mapper.proofs.Matching.{matchesOf, matches-exactly, matches-ascend, matches-entries}

@@ -6,40 +6,35 @@ use mathlib.Core.List.{List, [], _∷_}
 use Prim.Native.Nat.{ℕ, zero, suc, _≤_, _<_}
 use native.Mathlib.Omega.{arith}
 use lib.ListN.{length, take}
-use lib.Dec.{leb, ltb, eqb}
-use borrow.Author.Tests.{le-leb, lt-leb, leb-true, eqb-true, ne-eqb}
+use lib.Dec.{ltb, eqb}
+use borrow.Author.Tests.{leb-true, eqb-true, ne-eqb}
 use Rattle.lists.specs.Filter.{every}
-use Rattle.lists.specs.Member.{_∈_}
 use Rattle.lists.specs.Same.{same}
 use Rattle.lists.proofs.Cases.{by-test, clash, and-true}
-use Rattle.lists.proofs.Cut.{length-cut}
-use Rattle.lists.proofs.Every.{every-at, ∈-every}
-use Rattle.lists.proofs.Member.{map-∈}
 use Rattle.lists.proofs.Same.{same-true}
 use Rattle.bases.specs.Base.{A, C, G, T, isCapital}
 use Rattle.bases.proofs.Bytes.{letter-capital}
 use Rattle.promises.specs.Refusal.{unless, _orElse_}
 use Rattle.promises.proofs.Refusing.{first-stands}
 use Rattle.names.specs.Name.{distinctNames}
-use Rattle.catalogue.specs.Catalogue.{Catalogue, Target, Valid, names, sequences, mapped, inBounds, properSequence, catalogueRefusal, suppliedPlaces}
+use Rattle.catalogue.specs.Catalogue.{Catalogue, names, sequences, inBounds, properSequence, catalogueRefusal, suppliedPlaces}
 use Rattle.catalogue.specs.declared.ranks.Ranking.{Ranking}
 use Rattle.catalogue.specs.declared.ranks.Ranking.the-variants.{Refused, Ranked}
-use Rattle.catalogue.proofs.Mapped.{mapped-∈, at-its-place}
 use Rattle.seeds.specs.Seeds.{keysOf, ranksOf, positionsOf}
 use Rattle.seeds.specs.Key.{SeedLength}
 use Rattle.index.specs.Index.{indexOf, mappedSequences, rankedSequences, seedRight, planRefusal, indexRefusal, columnsOf, Lent, Indexed}
-use Rattle.postings.specs.Answers.{PlanRanked}
-use Rattle.postings.proofs.Planning.{no-refusal, ranked-mapped, number, not-zero, test-refused}
+use Rattle.planning.specs.Answers.{PlanRanked}
+use Rattle.planning.proofs.Planning.{no-refusal, ranked-mapped, number, not-zero, test-refused}
 use Rattle.bases.specs.Read.{folded}
-use Rattle.places.specs.Place.{Place, maxRead, groups}
+use Rattle.places.specs.Place.{maxRead, groups}
 use Rattle.scan.specs.Entries.{entryCount}
-use Rattle.search.specs.Bounds.{lengthRight, limitRight}
+use Rattle.answers.specs.Bounds.{lengthRight, limitRight}
 use Rattle.index_search.specs.Work.{byIndex}
-use Rattle.search.specs.Answer.{roomRefusal, SearchAnswered}
+use Rattle.answers.specs.Answer.{roomRefusal}
+use Rattle.search.specs.Answered.{SearchAnswered}
 use Rattle.index_search.specs.Steps.{IndexSearchable, Mappable}
-use Rattle.index_search.specs.declared.work.MappingWork.{MappingWork}
-use Rattle.search.specs.declared.answer.MapAnswer.{MapAnswer}
-use Rattle.search.specs.declared.answer.MapAnswer.the-variants as answers
+use Rattle.answers.specs.declared.answer.MapAnswer.{MapAnswer}
+use Rattle.answers.specs.declared.answer.MapAnswer.the-variants as answers
 use Rattle.indexed_mapper.specs.Map.{readRefusal, rankedRefusal, mapRefusal, RankedAnswered, ReadMapped, IndexMapped, MapsTo}
 
 -- ---- refusals of a read and a limit

@@ -1,29 +1,28 @@
 -- The groups of a read are its matches, said of targets as they are supplied.
 -- Assumes nothing.
 use mathlib.Core.Path.{_≡_, refl, sym, ap, ap₂, subst, _∙_}
-use mathlib.Core.Bool.{Bool, true}
-use mathlib.Core.Logic.{_↔_, inl, inr}
+use mathlib.Core.Bool.{Bool}
+use mathlib.Core.Logic.{_↔_}
 use mathlib.Core.List.{List, [], _∷_, _++_, map}
-use Prim.Native.Nat.{ℕ, zero, suc, _+_, _≤_, _<_}
+use Prim.Native.Nat.{ℕ, zero, suc, _+_, _<_}
 use native.Mathlib.Omega.{arith}
 use lib.ListN.{length, getD, length-map}
 use borrow.Author.Tests.{eq-eqb, ne-eqb}
 use Rattle.lists.specs.Member.{_∈_}
 use Rattle.lists.specs.Order.{StrictOrder, Ascending}
-use Rattle.lists.specs.Triple.{Triple, lexicographic}
+use Rattle.lists.specs.Triple.{Triple}
 use Rattle.lists.specs.Cut.{window}
 use Rattle.bases.specs.Read.{folded, oriented}
 use Rattle.lists.proofs.Member.{getD-∈, ∈-getD, ∈-map, map-∈}
 use Rattle.lists.proofs.Order.{ascending-map, later-differs}
 use Rattle.lists.proofs.Places.{getD-map}
 use Rattle.lists.proofs.Same.{same-true, true-same}
-use Rattle.names.specs.Name.{nameBefore}
-use Rattle.names.specs.Ordered.{placeBefore}
+use Rattle.names.specs.Name.{nameBefore, placeBefore}
 use Rattle.names.proofs.NameLaws.{place-order}
-use Rattle.catalogue.specs.Catalogue.{Catalogue, Target, Valid, names, targets, isMapped, byName, mapped, suppliedPlaces}
+use Rattle.catalogue.specs.Catalogue.{Catalogue, Target, Valid, names, byName, mapped, suppliedPlaces}
 use Rattle.catalogue.proofs.Mapped.{mapped-∈, ∈-mapped, mapped-ascending, named-by-place}
 use Rattle.index.specs.Index.{mappedSequences}
-use Rattle.places.specs.Place.{Place, place, triple, before, Fits, matches, groups}
+use Rattle.places.specs.Place.{Place, place, before, Fits, matches, groups}
 use Rattle.places.proofs.Placing.{groups-∈, ∈-groups, groups-ascending}
 use Rattle.scan.specs.Entries.{entryOf, entriesOf}
 use Rattle.indexed_mapper.specs.Match.{Match, placeOf, rankOf, byRank, matchEntries}

@@ -6,14 +6,14 @@ use Rattle.bases.specs.Base.{A, C, G, T}
 use Rattle.bases.specs.Read.{given}
 use Rattle.bases.specs.Eligibility.{Verdict, ineligible, eligibility}
 use Rattle.bases.specs.Eligibility as judged
-use Rattle.promises.specs.Refusal.{Outcome, accepted}
+use Rattle.promises.specs.Refusal.{accepted}
 use Rattle.catalogue.specs.Catalogue.{Catalogue}
 use Rattle.columns.specs.Posting.{Posting, posting}
 use Rattle.seeds.specs.Seeds.{keysOf, ranksOf, positionsOf}
 use Rattle.index.specs.Index.{index, mappedSequences}
 use Rattle.places.specs.Place.{Place, place, groups}
 use Rattle.index_search.specs.Work.{workOf}
-use Rattle.search.specs.Answer.{Row, row, listed}
+use Rattle.answers.specs.Answer.{Row, row, listed}
 use Rattle.index_search.specs.declared.work.MappingWork.{MappingWork}
 use Rattle.indexed_mapper.specs.Map.{mapAnswer}
 

@@ -8,10 +8,10 @@ use Rattle.catalogue.specs.Catalogue.{Catalogue, properSequence, suppliedPlaces
 use Rattle.index.specs.Index.{mappedSequences, indexOf, columnsOf, indexRefusal}
 use Rattle.places.specs.Place.{groups}
 use Rattle.scan.specs.Entries.{entryCount}
-use Rattle.search.specs.Bounds.{lengthRight, limitRight}
+use Rattle.answers.specs.Bounds.{lengthRight, limitRight}
 use Rattle.index_search.specs.Work.{work}
-use Rattle.search.specs.Answer.{Row, roomRefusal, readAnswer, readEntries, Leaves, Answered}
-use Rattle.search.specs.declared.answer.MapAnswer.{MapAnswer}
+use Rattle.answers.specs.Answer.{Row, roomRefusal, readAnswer, readEntries, Leaves, Answered}
+use Rattle.answers.specs.declared.answer.MapAnswer.{MapAnswer}
 
 -- ---- refusals
 

@@ -14,7 +14,7 @@ use Rattle.catalogue.specs.Catalogue.{Catalogue, Target, targets, isMapped, sup
 use Rattle.seeds.specs.Window.{windowOf, FitsIn}
 use Rattle.seeds.specs.Seeds.{placed}
 use Rattle.scan.specs.Entries.{entryOf, cleared}
-use Rattle.search.specs.Answer.{Row}
+use Rattle.answers.specs.Answer.{Row}
 
 -- the read matches at a start and on a strand of the linear target supplied at a place: it ends within the target, and the
 -- target's bases from the start on are the read's, in upper case and as it lies on the strand

@@ -6,13 +6,13 @@ ghost use Rattle.seeds.specs.Key.{SeedLength};
 ghost use Rattle.index.specs.Index.{Lent, lentSequences};
 ghost use Rattle.index_search.specs.Steps.{Mappable};
 ghost use Rattle.indexed_mapper.specs.Map.{readRefusal, ReadMapped, IndexMapped, MapsTo};
+use answers::answer::MapAnswer;
+use answers::bounds::length_right;
+use answers::bounds::limit_right;
 use catalogue::bounds::proper_sequence;
 use catalogue::ranks::Ranking;
 use index::test::is_index;
-use postings::plan::rank_checked;
-use search::answer::MapAnswer;
-use search::bounds::length_right;
-use search::bounds::limit_right;
+use planning::rank_checked;
 use search::search;
 
 // Tests a read and a limit: refusals 7, 8 and 9, or 0.

@@ -6,6 +6,7 @@ pub mod Every
 pub mod Same
 pub mod Order
 pub mod Sort
+pub mod Numbers
 pub mod Permutation
 pub mod Triple
 pub mod Limit

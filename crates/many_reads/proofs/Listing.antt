@@ -3,7 +3,7 @@
 use mathlib.Core.Path.{_≡_, refl, sym, ap, _∙_}
 use mathlib.Core.Bool.{Bool, true, false}
 use mathlib.Core.List.{List, []}
-use Prim.Native.Nat.{ℕ, zero, suc, _*_, _/_, _%_, _≤_, _<_}
+use Prim.Native.Nat.{ℕ, _*_, _/_, _%_, _≤_}
 use native.Mathlib.Omega.{arith}
 use native.Mathlib.Nat.{mul-zero, mul-assoc}
 use lib.ListN.{length, getD, take, drop}
@@ -18,15 +18,17 @@ use Rattle.catalogue.specs.Catalogue.{Catalogue, suppliedPlaces}
 use Rattle.catalogue.specs.declared.ranks.Ranking.{Ranking}
 use Rattle.catalogue.specs.declared.ranks.Ranking.the-variants.{Refused, Ranked}
 use Rattle.index.specs.Index.{index, indexOf, mappedSequences, rankedSequences, indexRefusal, columnsOf}
-use Rattle.postings.specs.Answers.{PlanRanked}
-use Rattle.postings.proofs.Planning.{no-refusal, ranked-mapped, not-zero, test-refused}
+use Rattle.planning.specs.Answers.{PlanRanked}
+use Rattle.planning.proofs.Planning.{no-refusal, ranked-mapped, not-zero, test-refused}
 use Rattle.places.specs.Place.{groups}
 use Rattle.scan.specs.Entries.{entryCount}
 use Rattle.index_search.specs.Work.{work}
-use Rattle.search.specs.Bounds.{limitRight}
-use Rattle.search.specs.Answer.{readAnswer, readEntries}
+use Rattle.answers.specs.Bounds.{limitRight}
+use Rattle.answers.specs.Answer.{readAnswer, readEntries}
 use Rattle.indexed_mapper.specs.Map.{rankedRefusal, mapRefusal, mapAnswer, mapEntries}
-use Rattle.many_reads.specs.Reads.{rowNumbers, readsRight, listRefusal, readsRefusal, RankedMapped, RankedReads, MapsReads, ReadsMapped, rankedAnswer, rankedEntries, widthOf}
+use Rattle.rows.specs.Rows.{rowNumbers}
+use Rattle.many_reads.specs.Reads.{readsRight, listRefusal, readsRefusal, RankedReads, MapsReads, widthOf}
+use Rattle.shares.specs.Shares.{RankedMapped, ReadsMapped, rankedAnswer, rankedEntries}
 
 -- ---- refusals of a limit and a list of reads
 

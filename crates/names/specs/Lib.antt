@@ -1,4 +1,3 @@
 pub mod Name
 pub mod Comparison
-pub mod Ordered
 pub mod Lent

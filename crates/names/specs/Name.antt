@@ -2,6 +2,7 @@
 use mathlib.Core.Bool.{Bool, true, false, not, _&&_, _||_}
 use mathlib.Core.List.{List, [], _∷_}
 use Prim.Native.Nat.{ℕ}
+use lib.ListN.{getD}
 use lib.Dec.{ltb, eqb}
 use Rattle.lists.specs.Filter.{every}
 use Rattle.lists.specs.Same.{same}
@@ -11,6 +12,10 @@ abbrev pub nameBefore : List ℕ → List ℕ → Bool
 nameBefore xs [] = false
 nameBefore [] (y ∷ ys) = true
 nameBefore (x ∷ xs) (y ∷ ys) = ltb x y || (eqb x y && nameBefore xs ys)
+
+-- the name at the one place is before that at the other
+abbrev pub placeBefore : List (List ℕ) → ℕ → ℕ → Bool
+placeBefore names i j = nameBefore (getD names i []) (getD names j [])
 
 -- no name equals a later one
 abbrev pub distinctNames : List (List ℕ) → Bool

@@ -1,4 +1,3 @@
-// Sequences by their place; identifiers compared and put in order.
-mod compare;
-pub mod order;
+// Sequences by their place; identifiers compared.
+pub mod compare;
 pub mod sequences;

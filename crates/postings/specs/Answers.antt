@@ -1,39 +1,16 @@
--- What the public calls answer, and what they leave in the columns (REFERENCE.md, "Index").
+-- What a build answers, and what it leaves in the columns (REFERENCE.md, "Index").
 use mathlib.Core.Path.{_≡_}
 use mathlib.Core.List.{List, _++_}
 use Prim.Native.Nat.{ℕ, zero, suc, min}
 use lib.ListN.{length, drop}
 use lib.Dec.{leb}
 use Rattle.promises.specs.Refusal.{unless, Outcome, refused, accepted, outcome}
-use Rattle.catalogue.specs.Catalogue.{Catalogue, mapped}
-use Rattle.catalogue.specs.Ranking.{rankingOutcome, RanksIn}
-use Rattle.catalogue.specs.declared.ranks.Ranking.{Ranking}
+use Rattle.catalogue.specs.Catalogue.{Catalogue}
 use Rattle.columns.specs.Posting.{Posting}
 use Rattle.seeds.specs.Seeds.{keysOf, ranksOf, positionsOf}
-use Rattle.index.specs.Index.{indexOf, index, planRefusal, buildRefusal}
-use Rattle.postings.specs.declared.plan.Counts.{Counts}
-use Rattle.postings.specs.declared.plan.IndexPlan.{IndexPlan}
-use Rattle.postings.specs.declared.plan.IndexPlan.the-variants as plans
-use Rattle.postings.specs.declared.plan.Built.{Built}
-use Rattle.postings.specs.declared.plan.Built.the-variants as builts
-
--- ---- plan
-
--- what each answer of `plan` stands for
-abbrev pub planOutcome : IndexPlan → Outcome Counts
-planOutcome (plans.Refused n) = refused n
-planOutcome (plans.Planned counts) = accepted counts
-
--- refused, or the numbers of mapped targets and of postings
-abbrev pub planned : ℕ → Catalogue → Outcome Counts
-planned q c = outcome (planRefusal q c) (record { targets = length (mapped c); postings = length (index q c) })
-
--- the ranking of a catalogue whose seed length is tested too
-pub record PlanRanked (q : ℕ) (c : Catalogue) (r : Ranking) (buffer : List ℕ) : Type 0 where
-  pub answer : rankingOutcome r ≡ outcome (planRefusal q c) (length (mapped c))
-  pub ranks : RanksIn c r buffer
-
--- ---- build
+use Rattle.index.specs.Index.{indexOf, index, buildRefusal}
+use Rattle.postings.specs.declared.Built.{Built}
+use Rattle.postings.specs.declared.Built.the-variants as builts
 
 -- what each answer of `build` stands for
 abbrev pub builtOutcome : Built → Outcome ℕ

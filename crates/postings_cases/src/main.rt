@@ -10,11 +10,11 @@ ghost use mathlib.Core.Path.{_≡_};
 ghost use lib.ListN.{length};
 use libc::STDIN_FILENO;
 use libc::STDOUT_FILENO;
-use postings::plan::Built;
-use postings::plan::IndexPlan;
-use postings::plan::build;
-use postings::plan::check_index;
-use postings::plan::plan;
+use planning::IndexPlan;
+use planning::plan;
+use postings::Built;
+use postings::build;
+use postings::check_index;
 
 // How many entries of each column are lent.
 struct Room {

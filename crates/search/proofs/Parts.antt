@@ -2,7 +2,7 @@
 -- Assumes nothing.
 use mathlib.Core.Path.{_≡_, refl, sym, ap, _∙_}
 use mathlib.Core.List.{List, _++_, append-assoc}
-use Prim.Native.Nat.{ℕ, zero, suc, _+_, _*_, _≤_}
+use Prim.Native.Nat.{ℕ, zero, suc, _+_, _≤_}
 use native.Mathlib.Omega.{arith}
 use lib.ListN.{length, take, drop}
 use lib.Seq.{drop-drop}
@@ -18,9 +18,10 @@ use Rattle.places.specs.Place.{Place, groups}
 use Rattle.scan.specs.Entries.{entriesOf, entryCount, cleared}
 use Rattle.scan.proofs.Going.{length-entries}
 use Rattle.index_search.specs.Work.{Way}
-use Rattle.search.specs.Answer.{entriesAfter, listed, roomRefusal, readEntries, SearchAnswered, PartSearched}
-use Rattle.search.specs.declared.answer.MapAnswer.{MapAnswer}
-use Rattle.search.proofs.Concluding.{length-cleared}
+use Rattle.answers.specs.Answer.{entriesAfter, listed, roomRefusal, readEntries}
+use Rattle.search.specs.Answered.{SearchAnswered, PartSearched}
+use Rattle.answers.specs.declared.answer.MapAnswer.{MapAnswer}
+use Rattle.answers.proofs.Concluding.{length-cleared}
 
 -- a part put back is a placed part
 part-back : (from width : ℕ) (b g : List ℕ) → from + width ≤ length b → length g ≡ width → putMid from width b g ≡ placed from g b

@@ -1,2 +1,1 @@
-pub mod Bounds
-pub mod Answer
+pub mod Answered

@@ -1,59 +1,19 @@
-// The search by index, the search at every start, and what they answer.
-ghost use mathlib.Core.Path.{_≡_};
-ghost use Prim.Native.Nat.{_+_, _≤_, min};
+// The search by index or at every start.
+ghost use Prim.Native.Nat.{_+_, _≤_};
 ghost use lib.ListN.{length};
 ghost use Rattle.promises.specs.Slice.{old, new};
 ghost use Rattle.index.specs.Index.{lentSequences};
 ghost use Rattle.scan.specs.Searched.{Searchable};
 ghost use Rattle.index_search.specs.Work.{byIndex, plain};
-ghost use Rattle.search.specs.Answer.{SearchAnswered, PartSearched, Concluded};
 ghost use Rattle.index_search.specs.Steps.{IndexSearchable};
-use answer::MapAnswer;
-use answer::Mapping;
-use answer::ReadState;
-use answer::state_of;
+ghost use Rattle.search.specs.Answered.{SearchAnswered, PartSearched};
+use answers::answer::MapAnswer;
+use answers::bound_of;
+use answers::conclude;
 use index_search::by_index::search_index;
-use index_search::work::MappingWork;
 use index_search::work::work_of;
 use scan::entries::clear_entries;
 use scan::every_start::scan;
-
-pub mod answer;
-pub mod bounds;
-
-// The lesser of the limit and the number of entries: a search need not go on past either.
-fn bound_of(limit: u64, entries: usize) -> usize
-    ensures { λ r. ⌜ r ≡ min limit entries ⌝ }
-{
-    if limit < entries as u64 {
-        return limit as usize;
-    }
-    entries
-}
-
-// The answer by the matches seen under a bound. Where there are more, the entries are set to zero.
-fn conclude(entries: &mut [u64], limit: u64, bound: usize, work: MappingWork) -> MapAnswer
-    ensures { λ r. ⌜ Concluded limit bound work r (old entries) (new entries) ⌝ }
-{
-    let seen = work.seen as usize;
-    if seen <= bound {
-        return MapAnswer::Mapped(Mapping {
-            state: state_of(seen),
-            groups: seen,
-            work,
-        });
-    }
-    clear_entries(entries);
-    let room = entries.len() / 4;
-    if (room as u64) < limit {
-        return MapAnswer::Refused(10);
-    }
-    MapAnswer::Mapped(Mapping {
-        state: ReadState::Indeterminate,
-        groups: 0,
-        work,
-    })
-}
 
 // Searches at every start: refusal 10, or the state and groups of a read.
 pub fn search_every_start(

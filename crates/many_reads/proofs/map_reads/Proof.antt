@@ -1,7 +1,7 @@
 -- `many_reads::map_reads` meets its contract: the ranking's refusal, or the answer for the ranked sequences.
 -- Assumes nothing.
 use native.Mathlib.Omega.{arith}
-use Rattle.postings.proofs.Planning.{within-buffer, prefix-length, lent, seed-length}
+use Rattle.planning.proofs.Planning.{within-buffer, prefix-length, lent, seed-length}
 use Rattle.many_reads.proofs.Listing.{reads-refused, reads-done}
 use borrow.Author.Needs.{needs}
 use Rattle.many_reads.proofs.map_reads.Statement.{statement}

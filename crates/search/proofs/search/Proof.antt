@@ -3,7 +3,7 @@
 use native.Mathlib.Omega.{arith}
 use Rattle.index.specs.Index.{rankedSequences}
 use Rattle.index_search.specs.Work.{byIndex}
-use Rattle.search.proofs.Concluding.{search-answered, work-bounded, work-short}
+use Rattle.search.proofs.Searching.{search-answered, work-bounded, work-short}
 use borrow.Author.Needs.{needs}
 use Rattle.search.proofs.search.Statement.{statement}
 use Rattle.search.proofs.search.Tie as tie

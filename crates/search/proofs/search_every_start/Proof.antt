@@ -2,7 +2,7 @@
 -- Assumes nothing.
 use Rattle.index.specs.Index.{rankedSequences}
 use Rattle.index_search.specs.Work.{plain}
-use Rattle.search.proofs.Concluding.{search-answered, scan-bounded, scan-found}
+use Rattle.search.proofs.Searching.{search-answered, scan-bounded, scan-found}
 use borrow.Author.Needs.{needs}
 use Rattle.search.proofs.search_every_start.Statement.{statement}
 use Rattle.search.proofs.search_every_start.Tie as tie

@@ -3,11 +3,10 @@
 use native.Mathlib.Omega.{arith}
 use Rattle.candidates.proofs.Moving.{Passing, passing-none, passing-more, passing-found, passing-end, posting-lies, room-after}
 use borrow.Author.Needs.{needs}
-use mathlib.Core.Path.{_≡_, refl, sym, ap, _∙_}
+use mathlib.Core.Path.{refl, sym, ap, _∙_}
 use Prim.Native.Nat.{_-_}
 use Rattle.index.specs.Index.{rankedSequences}
 use Rattle.candidates.specs.Search.{lies}
-use Rattle.candidates.specs.Cursor.{postingAt}
 use Rattle.candidates.proofs.cursor.OrientationCursor.next_candidate.Statement.{
   statement,
 }

@@ -1,0 +1,117 @@
+-- `shares::map_shares` meets its contract. The invariant: `RankedShares`, the reads that have their rows and shares.
+-- Assumes nothing.
+use native.Mathlib.Omega.{arith}
+use Prim.Native.Nat.{_-_}
+use lib.ListN.{length}
+use borrow.Author.Needs.{needs}
+use Rattle.index.specs.Index.{rankedSequences}
+use Rattle.shares.proofs.Sharing.{RankedShares, shares-start, shares-row, shares-share, shares-next, shares-end}
+use Rattle.shares.proofs.map_shares.Statement.{statement}
+use Rattle.shares.proofs.map_shares.Tie as tie
+
+abbrev Inv-loop : tie.InvT-loop
+Inv-loop rows₀ entries₀ bases ends ranked keys ranks positions q reads read-ends limit share i₀ rows entries i =
+    RankedShares q (rankedSequences bases ends ranked) ranked limit reads read-ends share rows₀ entries₀ i rows entries
+
+abbrev μ-loop : tie.MeasureT-loop
+μ-loop rows₀ entries₀ bases ends ranked keys ranks positions q reads read-ends limit share i₀ rows entries i =
+    length read-ends - i
+
+loop-holds : tie.Need-loop-holds Inv-loop μ-loop
+loop-holds c =
+    let z = c .before .before .before .before .before .before .before .before .before .before in
+    let a = z .args in
+    let ss = rankedSequences (a .bases .now) (a .ends .now) (a .ranked .now) in
+    shares-start (a .q) ss (a .ranked .now) (a .limit) (a .reads .now) (a .read-ends .now) (a .share) (a .rows .now) (a .entries .now)
+
+mul-width : tie.Need-mul-width Inv-loop μ-loop
+mul-width c =
+    let z = c .before .before .before .before .before .before .before .before .before .before .before .before in
+    let a = z .args in
+    let ss = rankedSequences (a .bases .now) (a .ends .now) (a .ranked .now) in
+    let l = c .before .loop in
+    omega (arith, shares-share (a .q) ss (a .ranked .now) (a .limit) (a .reads .now) (a .read-ends .now) (a .share) (a .rows .now) (a .entries .now) (l .i) (l .rows) (l .entries) (l .inv) (omega (arith, c .loop-test .taken)) (z .pre .1 .0) (z .pre .1 .1), l .inv .entries-long)
+
+sequence-at-requires : tie.Need-sequence-at-requires Inv-loop μ-loop
+sequence-at-requires c κs = (c .before .before .before .before .before .before .before .before .before .before .before .before .pre .0 .1, omega (arith, c .loop-test .taken))
+
+mul-map-share : tie.Need-mul-map-share Inv-loop μ-loop
+mul-map-share c =
+    let z = c .before .before .before .before .before .before .before .before .before .before .before .before .before .before in
+    let a = z .args in
+    let ss = rankedSequences (a .bases .now) (a .ends .now) (a .ranked .now) in
+    let l = c .before .before .before .loop in
+    omega (arith, shares-share (a .q) ss (a .ranked .now) (a .limit) (a .reads .now) (a .read-ends .now) (a .share) (a .rows .now) (a .entries .now) (l .i) (l .rows) (l .entries) (l .inv) (omega (arith, c .before .before .loop-test .taken)) (z .pre .1 .0) (z .pre .1 .1), l .inv .entries-long)
+
+map-share-requires : tie.Need-map-share-requires Inv-loop μ-loop
+map-share-requires c κs =
+    let z = c .before .before .before .before .before .before .before .before .before .before .before .before .before .before in
+    let a = z .args in
+    let ss = rankedSequences (a .bases .now) (a .ends .now) (a .ranked .now) in
+    let l = c .before .before .before .loop in
+    (z .pre .0 .0, omega (arith, shares-share (a .q) ss (a .ranked .now) (a .limit) (a .reads .now) (a .read-ends .now) (a .share) (a .rows .now) (a .entries .now) (l .i) (l .rows) (l .entries) (l .inv) (omega (arith, c .before .before .loop-test .taken)) (z .pre .1 .0) (z .pre .1 .1)))
+
+mul-write-row : tie.Need-mul-write-row Inv-loop μ-loop
+mul-write-row c =
+    let z = c .before .before .before .before .before .before .before .before .before .before .before .before .before .before .before .before .before .before in
+    let a = z .args in
+    let ss = rankedSequences (a .bases .now) (a .ends .now) (a .ranked .now) in
+    let l = c .before .before .before .before .before .before .before .loop in
+    omega (arith, shares-row (a .q) ss (a .ranked .now) (a .limit) (a .reads .now) (a .read-ends .now) (a .share) (a .rows .now) (a .entries .now) (l .i) (l .rows) (l .entries) (l .inv) (omega (arith, c .before .before .before .before .before .before .loop-test .taken)) (z .pre .1 .0) (z .pre .1 .1), l .inv .rows-long)
+
+write-row-requires : tie.Need-write-row-requires Inv-loop μ-loop
+write-row-requires c κs =
+    let z = c .before .before .before .before .before .before .before .before .before .before .before .before .before .before .before .before .before .before in
+    let a = z .args in
+    let ss = rankedSequences (a .bases .now) (a .ends .now) (a .ranked .now) in
+    let l = c .before .before .before .before .before .before .before .loop in
+    omega (arith, shares-row (a .q) ss (a .ranked .now) (a .limit) (a .reads .now) (a .read-ends .now) (a .share) (a .rows .now) (a .entries .now) (l .i) (l .rows) (l .entries) (l .inv) (omega (arith, c .before .before .before .before .before .before .loop-test .taken)) (z .pre .1 .0) (z .pre .1 .1))
+
+add-i : tie.Need-add-i Inv-loop μ-loop
+add-i c = search needs
+
+loop-less : tie.Need-loop-less Inv-loop μ-loop
+loop-less c = search needs
+
+loop-again : tie.Need-loop-again Inv-loop μ-loop
+loop-again c =
+    let z = c .before .before .before .before .before .before .before .before .before .before .before .before .before .before .before .before .before .before .before .before .before in
+    let a = z .args in
+    let ss = rankedSequences (a .bases .now) (a .ends .now) (a .ranked .now) in
+    let l = c .before .before .before .before .before .before .before .before .before .before .loop in
+    let m = c .before .before .before .before .before .before .map-share in
+    shares-next (a .q) ss (a .ranked .now) (a .limit) (a .reads .now) (a .read-ends .now) (a .share) (a .rows .now) (a .entries .now) (l .i) (l .rows) (l .entries) (l .inv) (omega (arith, c .before .before .before .before .before .before .before .before .before .loop-test .taken)) (z .pre .1 .0) (z .pre .1 .1) _ (m .result) _ (m .last .0) (c .before .before .before .before .before .before .before .before .sequence-at .ensures) (m .ensures) (c .before .before .write-row .ensures)
+
+same-length : tie.Need-same-length Inv-loop μ-loop
+same-length c = c .before .loop .inv .rows-long
+
+same-length-2 : tie.Need-same-length-2 Inv-loop μ-loop
+same-length-2 c = c .before .loop .inv .entries-long
+
+returns : tie.Need-returns Inv-loop μ-loop
+returns c =
+    let z = c .before .before .before .before .before .before .before .before .before .before .before .before in
+    let a = z .args in
+    let ss = rankedSequences (a .bases .now) (a .ends .now) (a .ranked .now) in
+    let l = c .before .loop in
+    shares-end (a .q) ss (a .ranked .now) (a .limit) (a .reads .now) (a .read-ends .now) (a .share) (a .rows .now) (a .entries .now) (l .i) (l .rows) (l .entries) (l .inv) (omega (arith, c .loop-test .left))
+
+pub map-shares-spec : {M : Type 1} → statement M
+map-shares-spec =
+    tie.close
+    (tie.spec
+    Inv-loop
+    μ-loop
+    loop-holds
+    mul-width
+    sequence-at-requires
+    mul-map-share
+    map-share-requires
+    mul-write-row
+    write-row-requires
+    add-i
+    loop-less
+    loop-again
+    same-length
+    same-length-2
+    returns)

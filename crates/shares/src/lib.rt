@@ -1,0 +1,96 @@
+// Reads mapped one after the other, each into its share of the entries.
+ghost use mathlib.Core.Path.{_≡_};
+ghost use mathlib.Core.Bool.{true};
+ghost use Prim.Native.Nat.{_+_, _*_, _≤_};
+ghost use lib.ListN.{length};
+ghost use Rattle.lists.specs.Cut.{endsWithin};
+ghost use Rattle.promises.specs.Slice.{old, new};
+ghost use Rattle.index.specs.Index.{lentSequences};
+ghost use Rattle.index_search.specs.Steps.{Mappable};
+ghost use Rattle.shares.specs.Shares.{ShareMapped, RankedMapped};
+use answers::answer::MapAnswer;
+use indexed_mapper::map::check_read;
+use names::sequences::sequence_at;
+use rows::write_row;
+use search::search_part;
+
+// Maps a read into `width` numbers from a place on.
+fn map_share(
+    entries: &mut [u64],
+    from: usize,
+    width: usize,
+    bases: &[u8],
+    ends: &[usize],
+    ranked: &[usize],
+    keys: &[u64],
+    ranks: &[u64],
+    positions: &[u64],
+    q: usize,
+    read: &[u8],
+    limit: u64,
+) -> MapAnswer
+    requires { ⌜ Mappable q (now bases) (now ends) (now ranked) (now keys) (now ranks) (now positions) × (from + width ≤ length (now entries)) ⌝ }
+    ensures { λ r. ⌜ ShareMapped q (lentSequences bases ends ranked) (old ranked) (old read) limit from width r (old entries) (new entries) ⌝ }
+{
+    let refusal = check_read(read, limit);
+    if refusal != 0 {
+        return MapAnswer::Refused(refusal);
+    }
+    search_part(
+        entries,
+        from,
+        width,
+        bases,
+        ends,
+        ranked,
+        keys,
+        ranks,
+        positions,
+        q,
+        read,
+        limit,
+    )
+}
+
+// Maps each read into its share of the entries, and writes its row.
+pub fn map_shares(
+    rows: &mut [u64],
+    entries: &mut [u64],
+    bases: &[u8],
+    ends: &[usize],
+    ranked: &[usize],
+    keys: &[u64],
+    ranks: &[u64],
+    positions: &[u64],
+    q: usize,
+    reads: &[u8],
+    read_ends: &[usize],
+    limit: u64,
+    share: usize,
+)
+    requires { ⌜ Mappable q (now bases) (now ends) (now ranked) (now keys) (now ranks) (now positions) × (endsWithin 0 (length (now reads)) (now «read_ends») ≡ true) ⌝ }
+    requires { ⌜ (length (now rows) ≡ 8 * length (now «read_ends»)) × (4 * share * length (now «read_ends») ≤ length (now entries)) ⌝ }
+    ensures { λ _. ⌜ RankedMapped q (lentSequences bases ends ranked) (old ranked) limit (old reads) (old «read_ends») share (new rows) (old entries) (new entries) ⌝ }
+{
+    let mut i = 0;
+    while i < read_ends.len() {
+        let width = 4 * share;
+        let read = sequence_at(reads, read_ends, i);
+        let answer = map_share(
+            entries,
+            width * i,
+            width,
+            bases,
+            ends,
+            ranked,
+            keys,
+            ranks,
+            positions,
+            q,
+            read,
+            limit,
+        );
+        write_row(rows, 8 * i, answer);
+        i += 1;
+    }
+}
