@@ -2,22 +2,22 @@
 -- Assumes nothing.
 use mathlib.Core.Path.{_≡_, refl, sym, ap, ap₂, _∙_}
 use mathlib.Core.Bool.{true}
-use mathlib.Core.List.{List, [], _∷_, _++_, map, append-assoc, append-nil}
-use Prim.Native.Nat.{ℕ, zero, suc, _+_, _-_, _*_, _≤_}
+use mathlib.Core.List.{List, [], _∷_, _++_, map, append-nil}
+use Prim.Native.Nat.{ℕ, zero, suc, _+_, _*_, _≤_}
 use native.Mathlib.Omega.{arith}
 use native.Mathlib.Nat.{mul-suc}
-use lib.ListN.{length, take, drop, replicate, length-append, length-map, length-replicate, drop-of-length-le}
-use lib.Seq.{length-take-le, take-at, drop-at, drop-drop, take-take, take-append-add}
+use lib.ListN.{length, take, drop, replicate, length-map, length-replicate, drop-of-length-le}
+use lib.Seq.{drop-drop, take-take}
 use Rattle.lists.specs.Cut.{window}
 use Rattle.lists.proofs.Cut.{length-window}
-use Rattle.lists.proofs.Places.{drop-take}
 use Rattle.lists.proofs.Same.{same-true}
 use Rattle.promises.proofs.Refusing.{none-first, none-second}
 use Rattle.seeds.specs.Seeds.{placed}
 use Rattle.seeds.proofs.Storing.{length-placed}
+use Rattle.seeds.proofs.Placed.{window-before, placed-front, placed-part, placed-behind}
 use Rattle.scan.specs.Entries.{entryCount, cleared}
 use Rattle.scan.proofs.Going.{length-entries}
-use Rattle.search.proofs.Concluding.{length-cleared}
+use Rattle.answers.proofs.Concluding.{length-cleared}
 use Rattle.search.proofs.Parts.{listed-room}
 use Rattle.audit.specs.declared.settings.AuditInputMode.{AuditInputMode}
 use Rattle.audit.specs.declared.settings.AuditInputMode.the-variants as modes
@@ -25,38 +25,6 @@ use Rattle.audit.specs.declared.settings.Settings.{Settings}
 use Rattle.audit.specs.Settings.{roleNumber, rolesOf}
 use Rattle.audit.specs.Observing.{MateRead, readGroups, readRoom, readListed, readEntries}
 use Rattle.audit.specs.Fragment.{rolesRight, firstOf, shareOf, inParts}
-
--- ---- a list put into a buffer
-
-module _ (at : ℕ) (xs b : List ℕ) where
-  -- what stands before it stays
-  placed-front : at ≤ length b → take at (placed at xs b) ≡ take at b
-  placed-front h = ap (take at) (append-assoc (take at b) xs (drop (at + length xs) b)) ∙ take-at (take at b) (xs ++ drop (at + length xs) b) at (length-take-le at b h)
-
-  -- it stands there, and then comes what lies behind it
-  placed-from : at ≤ length b → drop at (placed at xs b) ≡ xs ++ drop (at + length xs) b
-  placed-from h = ap (drop at) (append-assoc (take at b) xs (drop (at + length xs) b)) ∙ drop-at (take at b) (xs ++ drop (at + length xs) b) at (length-take-le at b h)
-
-  module _ (width : ℕ) (short : length xs ≤ width) (room : at + width ≤ length b) where
-    -- its part holds it at the front
-    pub placed-part : window (placed at xs b) at width ≡ placed 0 xs (window b at width)
-    placed-part =
-        let w : width ≡ length xs + (width - length xs) = omega arith in
-        ap₂ take w (placed-from (omega arith)) ∙ take-append-add xs (drop (at + length xs) b) (width - length xs)
-        ∙ ap (λ l. xs ++ take (width - length xs) l) (sym (drop-drop (length xs) at b)) ∙ ap (λ l. xs ++ l) (sym (drop-take (length xs) width (drop at b)))
-        ∙ ap (λ n. xs ++ drop n (window b at width)) z
-      where
-        z : length xs ≡ 0 + length xs
-        z = omega arith
-
-    -- what lies behind its part stays
-    pub placed-behind : drop (at + width) (placed at xs b) ≡ drop (at + width) b
-    placed-behind =
-        let e : at + width ≡ at + length xs + (width - length xs) = omega arith in
-        let f : length (take at b ++ xs) ≡ at + length xs = length-append (take at b) xs ∙ ap (λ n. n + length xs) (length-take-le at b (omega arith)) in
-        ap (λ n. drop n (placed at xs b)) e ∙ sym (drop-drop (width - length xs) (at + length xs) (placed at xs b))
-        ∙ ap (drop (width - length xs)) (drop-at (take at b ++ xs) (drop (at + length xs) b) (at + length xs) f)
-        ∙ drop-drop (width - length xs) (at + length xs) b ∙ ap (λ n. drop n b) (sym e)
 
 -- ---- lists put into parts
 
@@ -92,13 +60,6 @@ module _ (width : ℕ) where
       sym (take-take from (from + width) (inParts width (from + width) ls (placed from l b)) (omega arith)) ∙ ap (take from) i ∙ take-take from (from + width) (placed from l b) (omega arith)
       ∙ placed-front from l b (omega (arith, o .0))
 
-  -- a part is told by what stands before its end
-  window-front : (b b′ : List ℕ) (from : ℕ) → take (from + width) b ≡ take (from + width) b′ → window b from width ≡ window b′ from width
-  window-front b b′ from e = part b ∙ ap (drop from) e ∙ sym (part b′)
-    where
-      part : (l : List ℕ) → window l from width ≡ drop from (take (from + width) l)
-      part l = let m : width ≡ from + width - from = omega arith in ap (λ k. take k (drop from l)) m ∙ sym (drop-take from (from + width) l)
-
   -- parts depend on what lies from the first on
   parts-same : (first : List ℕ → List ℕ) (from : ℕ) (ls : List (List ℕ)) (b b′ after : List ℕ) → drop from b ≡ drop from b′ → InParts first width from ls b after → InParts first width from ls b′ after
   parts-same first from [] b b′ after e p = tt
@@ -113,7 +74,7 @@ module _ (width : ℕ) where
       let o = one-room from (length ls) (length b) h in
       let e = length-placed from l b (omega (arith, s .0, o .0)) in
       let r : from + width + width * length ls ≤ length (placed from l b) = omega (arith, o .1, e) in (
-        window-front (inParts width (from + width) ls (placed from l b)) (placed from l b) from (parts-front (from + width) ls (placed from l b) (s .1) r) ∙ placed-part from l b width (s .0) (o .0),
+        window-before (inParts width (from + width) ls (placed from l b)) (placed from l b) from width (from + width) (omega arith) (parts-front (from + width) ls (placed from l b) (s .1) r) ∙ placed-part from l b width (s .0) (o .0),
         parts-same (λ k. k) (from + width) ls (placed from l b) b (inParts width (from + width) ls (placed from l b)) (placed-behind from l b width (s .0) (o .0)) (parts-placed (from + width) ls (placed from l b) (s .1) r),
       )
 

@@ -3,6 +3,7 @@ use mathlib.Core.Bool.{Bool, false, cond}
 use mathlib.Core.List.{List, [], _∷_}
 use Prim.Native.Nat.{ℕ, _-_}
 use lib.Dec.{leb}
+use Rattle.bases.specs.Eligibility.{lastQuality}
 use Rattle.ledger.specs.Booking.{Counters, Books, emptyLedger}
 use Rattle.audit.specs.declared.settings.AuditInputMode.{AuditInputMode}
 use Rattle.audit.specs.declared.settings.AuditInputMode.the-variants as modes
@@ -21,10 +22,6 @@ auditSeed = 15
 -- the quality byte that stands for 0
 abbrev pub auditOffset : ℕ
 auditOffset = 33
-
--- the greatest quality byte
-abbrev pub lastQuality : ℕ
-lastQuality = 126
 
 -- 11 where this fails: the floor is no more than the greatest byte less the offset, which is 93
 abbrev pub floorRight : ℕ → ℕ → Bool

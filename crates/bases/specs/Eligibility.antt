@@ -38,9 +38,13 @@ emptyTest (b ∷ bs) = eligible
 abbrev pub lengthTest : List ℕ → List ℕ → Verdict
 lengthTest qs bs = cond (eqb (length qs) (length bs)) eligible (refused 15)
 
--- 16: a byte outside offset to 126; a byte less the offset below the floor makes the read ineligible
+-- the greatest quality byte
+abbrev pub lastQuality : ℕ
+lastQuality = 126
+
+-- 16: a byte outside the offset to the greatest; a byte less the offset below the floor makes the read ineligible
 abbrev pub qualityTest : ℕ → ℕ → ℕ → Verdict
-qualityTest floor offset q = cond (leb offset q && leb q 126) (cond (ltb (q - offset) floor) ineligible eligible) (refused 16)
+qualityTest floor offset q = cond (leb offset q && leb q lastQuality) (cond (ltb (q - offset) floor) ineligible eligible) (refused 16)
 
 -- the qualities from left to right
 abbrev pub qualitiesTest : ℕ → ℕ → List ℕ → Verdict

@@ -1,3 +1,4 @@
 pub mod Windows
 pub mod Keying
 pub mod Storing
+pub mod Placed

@@ -1,22 +1,22 @@
--- Shares: windows of a buffer with a placed part, and reads mapped one after the other, each into its share.
+-- Reads mapped one after the other, each into its share.
 -- Assumes nothing.
 use mathlib.Core.Path.{_≡_, refl, sym, ap, ap₂, _∙_}
-use mathlib.Core.List.{List, [], _++_, append-assoc}
-use Prim.Native.Nat.{ℕ, suc, _+_, _-_, _*_, _<_, _≤_}
+use mathlib.Core.List.{List, []}
+use Prim.Native.Nat.{ℕ, suc, _+_, _*_, _<_, _≤_}
 use native.Mathlib.Omega.{arith}
 use native.Mathlib.Nat.{mul-suc, mul-le-mul-left}
-use lib.ListN.{length, getD, take, drop, length-append, take-append-drop}
-use lib.Seq.{length-take-le, take-at, drop-at, drop-drop, take-take}
+use lib.ListN.{length, getD, take, drop}
+use lib.Seq.{drop-drop}
 use lib.Dec.{ltb}
 use borrow.Author.Tests.{ltb-true, ltb-false}
 use Rattle.lists.specs.Cut.{window, cut}
 use Rattle.lists.proofs.Cases.{by-test}
 use Rattle.lists.proofs.Cut.{length-window, length-cut}
-use Rattle.lists.proofs.Places.{drop-take}
 use Rattle.promises.specs.Refusal.{Outcome}
 use Rattle.promises.proofs.Refusing.{none-second}
 use Rattle.seeds.specs.Seeds.{placed}
 use Rattle.seeds.proofs.Storing.{length-placed}
+use Rattle.seeds.proofs.Placed.{placed-there, placed-before, placed-behind, placed-self}
 use Rattle.places.specs.Place.{groups}
 use Rattle.scan.specs.Entries.{entryCount}
 use Rattle.index_search.specs.Work.{byIndex}
@@ -37,49 +37,7 @@ use Rattle.rows.proofs.Writing.{row-long}
 share-within : (width i n : ℕ) → i < n → width * i + width ≤ width * n
 share-within width i n h = rw (← mul-suc width i) (mul-le-mul-left width h)
 
--- ---- windows of a buffer with a placed part
-
--- a window is told by what stands before its end
-window-before : (b b′ : List ℕ) (start n k : ℕ) → start + n ≤ k → take k b ≡ take k b′ → window b start n ≡ window b′ start n
-window-before b b′ start n k h e = part b ∙ ap (drop start) (first b ∙ ap (take (start + n)) e ∙ sym (first b′)) ∙ sym (part b′)
-  where
-    part : (l : List ℕ) → window l start n ≡ drop start (take (start + n) l)
-    part l = let m : n ≡ start + n - start = omega arith in ap (λ k. take k (drop start l)) m ∙ sym (drop-take start (start + n) l)
-
-    first : (l : List ℕ) → take (start + n) l ≡ take (start + n) (take k l)
-    first l = sym (take-take (start + n) k l h)
-
-module _ (at : ℕ) (xs b : List ℕ) (h : at + length xs ≤ length b) where
-  before : length (take at b) ≡ at
-  before = length-take-le at b (omega arith)
-
-  placed-front : take at (placed at xs b) ≡ take at b
-  placed-front = ap (take at) (append-assoc (take at b) xs (drop (at + length xs) b)) ∙ take-at (take at b) (xs ++ drop (at + length xs) b) at before
-
-  -- the part itself
-  placed-there : window (placed at xs b) at (length xs) ≡ xs
-  placed-there =
-      ap (take (length xs)) (ap (drop at) (append-assoc (take at b) xs (drop (at + length xs) b)) ∙ drop-at (take at b) (xs ++ drop (at + length xs) b) at before)
-      ∙ take-at xs (drop (at + length xs) b) (length xs) refl
-
-  -- a window before the part
-  placed-before : (start n : ℕ) → start + n ≤ at → window (placed at xs b) start n ≡ window b start n
-  placed-before start n k = window-before (placed at xs b) b start n at k placed-front
-
-  -- what lies behind the part
-  placed-behind : drop (at + length xs) (placed at xs b) ≡ drop (at + length xs) b
-  placed-behind = drop-at (take at b ++ xs) (drop (at + length xs) b) (at + length xs) (omega (arith, length-append (take at b) xs, before))
-
 -- ---- a share
-
--- a part put where it was
-placed-self : (from width : ℕ) (b : List ℕ) → from + width ≤ length b → placed from (window b from width) b ≡ b
-placed-self from width b h =
-    ap (λ n. (take from b ++ window b from width) ++ drop (from + n) b) (length-window b from width h)
-    ∙ append-assoc (take from b) (window b from width) (drop (from + width) b)
-    ∙ ap (λ l. take from b ++ (window b from width ++ l)) (sym (drop-drop width from b))
-    ∙ ap (λ l. take from b ++ l) (take-append-drop width (drop from b))
-    ∙ take-append-drop from b
 
 -- a mapped read keeps the length of its share
 share-length : (ss : List (List ℕ)) (ranked read : List ℕ) (limit : ℕ) (part : List ℕ) → length (rankedEntries ss ranked read limit part) ≡ length part
@@ -145,19 +103,19 @@ module _ (answer : List ℕ → Outcome Row) (after : List ℕ → List ℕ → 
         row-next : (j : ℕ) → j < i + 1 → window rows′ (8 * j) 8 ≡ rowNumbers (answer (getD reads j []))
         row-next j h =
             by-test (ltb j i)
-            (λ e. let k = ltb-true j i e in placed-before (8 * i) (rowNumbers r) rows row-inside (8 * j) 8 (omega arith) ∙ s .row j k)
-            (λ e. let k : j ≡ i = omega (arith, ltb-false j i e) in rw k (ap (λ n. window rows′ (8 * i) n) (sym (row-long r)) ∙ placed-there (8 * i) (rowNumbers r) rows row-inside ∙ ap rowNumbers answered))
+            (λ e. let k = ltb-true j i e in placed-before (8 * i) (rowNumbers r) rows (omega (arith, row-inside)) (8 * j) 8 (omega arith) ∙ s .row j k)
+            (λ e. let k : j ≡ i = omega (arith, ltb-false j i e) in rw k (ap (λ n. window rows′ (8 * i) n) (sym (row-long r)) ∙ placed-there (8 * i) (rowNumbers r) rows (omega (arith, row-inside)) ∙ ap rowNumbers answered))
 
         share-next : (j : ℕ) → j < i + 1 → window entries′ (width * j) width ≡ after (getD reads j []) (window entries₀ (width * j) width)
         share-next j h =
             by-test (ltb j i)
-            (λ e. let k = ltb-true j i e in placed-before (width * i) part entries inside (width * j) width (share-within width j i k) ∙ s .share j k)
-            (λ e. let k : j ≡ i = omega (arith, ltb-false j i e) in rw k (ap (λ n. window entries′ (width * i) n) (sym full) ∙ placed-there (width * i) part entries inside ∙ written))
+            (λ e. let k = ltb-true j i e in placed-before (width * i) part entries (omega (arith, inside)) (width * j) width (share-within width j i k) ∙ s .share j k)
+            (λ e. let k : j ≡ i = omega (arith, ltb-false j i e) in rw k (ap (λ n. window entries′ (width * i) n) (sym full) ∙ placed-there (width * i) part entries (omega (arith, inside)) ∙ written))
 
         behind : drop (width * (i + 1)) entries′ ≡ drop (width * (i + 1)) entries₀
         behind =
             let m : width * (i + 1) ≡ width * i + length part = ap (λ n. width * n) one ∙ mul-suc width i ∙ ap (λ n. width * i + n) (sym full) in
-            rw m (placed-behind (width * i) part entries inside ∙ sym (drop-drop (length part) (width * i) entries) ∙ ap (drop (length part)) (s .rest) ∙ drop-drop (length part) (width * i) entries₀)
+            rw m (placed-behind (width * i) part entries (length part) (omega arith) inside ∙ sym (drop-drop (length part) (width * i) entries) ∙ ap (drop (length part)) (s .rest) ∙ drop-drop (length part) (width * i) entries₀)
           where
             one : i + 1 ≡ suc i
             one = omega arith
