@@ -14,7 +14,7 @@ use Rattle.lists.proofs.Order.{later-differs}
 use Rattle.promises.specs.Refusal.{unless}
 use Rattle.promises.proofs.Refusing.{none-first, none-second}
 use Rattle.names.proofs.NameLaws.{place-order}
-use Rattle.names.specs.Ordered.{placeBefore}
+use Rattle.names.specs.Name.{placeBefore}
 use Rattle.catalogue.specs.Catalogue.{Catalogue, Target, Valid, names, sequences, targetsFrom, targets, isMapped, catalogueRefusal, mapped, suppliedPlaces}
 use Rattle.catalogue.proofs.Mapped.{mapped-∈, ∈-mapped}
 use Rattle.catalogue.proofs.Refusals.{valid}
