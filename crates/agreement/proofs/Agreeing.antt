@@ -11,17 +11,17 @@ use Rattle.index.specs.Index.{mappedSequences}
 use Rattle.scan.specs.Entries.{entryCount}
 use Rattle.index_search.specs.Work.{byIndex, plain}
 use Rattle.ledger.specs.Booking.{Counters, Books}
-use Rattle.audit.specs.declared.settings.Settings.{Settings}
-use Rattle.audit.specs.declared.settings.LastOrdinal.the-variants as ordinals
-use Rattle.audit.specs.declared.sheet.Sheet.{Sheet}
-use Rattle.audit.specs.Settings.{Held, booksOf}
-use Rattle.audit.specs.Opening.{IndexLent, columns, none, openingRefusal, started, openingHeld}
-use Rattle.audit.specs.Observing.{readRow}
-use Rattle.audit.specs.Fragment.{Fragment, shareOf, entriesLeft, fragmentRefusal, fragmentAccepted, heldAfter, fragmentWritten}
-use Rattle.audit.specs.Sheet.{sheetOf, targetsShown, finishRefusal, finishAnswer}
-use Rattle.audit.specs.Run.{Answer, answers, after}
-use Rattle.audit.proofs.Checking.{fragment-checked}
-use Rattle.audit.proofs.Parts.{reads-in-parts}
+use Rattle.audit_rules.specs.declared.settings.Settings.{Settings}
+use Rattle.audit_rules.specs.declared.settings.LastOrdinal.the-variants as ordinals
+use Rattle.audit_rules.specs.declared.sheet.Sheet.{Sheet}
+use Rattle.audit_rules.specs.Settings.{Held, booksOf}
+use Rattle.audit_rules.specs.Opening.{IndexLent, columns, none, openingRefusal, started, openingHeld}
+use Rattle.audit_rules.specs.Observing.{readRow}
+use Rattle.audit_rules.specs.Fragment.{Fragment, shareOf, entriesLeft, fragmentRefusal, fragmentAccepted, heldAfter, fragmentWritten}
+use Rattle.audit_rules.specs.Sheet.{sheetOf, targetsShown, finishRefusal, finishAnswer}
+use Rattle.audit_rules.specs.Run.{Answer, answers, after}
+use Rattle.audit_rules.proofs.Checking.{fragment-checked}
+use Rattle.audit_rules.proofs.Parts.{reads-in-parts}
 use Rattle.agreement.specs.Twins.{TwinCall, indexedCall, plainCall, ReadsAgree, CallsAgree, isRefused, refusals, RefusedTogether, RunsAgree}
 use Rattle.agreement.proofs.Catalogues.{opening-valid}
 use Rattle.agreement.proofs.Fragments.{all-booked, all-agree}

@@ -21,15 +21,15 @@ use Rattle.index_search.specs.Work.{Way, workBy}
 use Rattle.answers.specs.Answer.{row, stateOf, mappedRow}
 use Rattle.ledger.specs.Booking.{Booked}
 use Rattle.ledger.specs.Counting.{Bookable}
-use Rattle.audit.specs.declared.settings.MateRole.{MateRole}
-use Rattle.audit.specs.declared.settings.MateRole.the-variants as roles
-use Rattle.audit.specs.declared.settings.Settings.{Settings}
-use Rattle.audit.specs.Settings.{Held, roleNumber, statesShown}
-use Rattle.audit.specs.Opening.{wayOf}
-use Rattle.audit.specs.Observing.{MateRead, isEligible, noWork, readBooked}
-use Rattle.audit.specs.Fragment.{fragmentRefusal, fragmentBooked, heldAfter}
+use Rattle.audit_rules.specs.declared.settings.MateRole.{MateRole}
+use Rattle.audit_rules.specs.declared.settings.MateRole.the-variants as roles
+use Rattle.audit_rules.specs.declared.settings.Settings.{Settings}
+use Rattle.audit_rules.specs.Settings.{Held, roleNumber, statesShown}
+use Rattle.audit_rules.specs.Opening.{wayOf}
+use Rattle.audit_rules.specs.Observing.{MateRead, isEligible, noWork, readBooked}
+use Rattle.audit_rules.specs.Fragment.{fragmentRefusal, fragmentBooked, heldAfter}
 use Rattle.agreement.proofs.Turned.{listed-∈}
-use Rattle.audit.specs.Run.{Call, ifAccepted, next, books, after, history}
+use Rattle.audit_rules.specs.Run.{Call, ifAccepted, next, books, after, history}
 
 -- ---- one read
 

@@ -23,9 +23,9 @@ use Rattle.indexed_mapper.specs.Match.{rankOf}
 use Rattle.indexed_mapper.proofs.Matching.{places-ascend, rank-is}
 use Rattle.ledger.specs.Booking.{Counters}
 use Rattle.ledger.specs.Counting.{Ranked}
-use Rattle.audit.specs.declared.settings.Settings.{Settings}
-use Rattle.audit.specs.Settings.{floorRight}
-use Rattle.audit.specs.Opening.{IndexLent, countersRight, openingRefusal}
+use Rattle.audit_rules.specs.declared.settings.Settings.{Settings}
+use Rattle.audit_rules.specs.Settings.{floorRight}
+use Rattle.audit_rules.specs.Opening.{IndexLent, countersRight, openingRefusal}
 
 -- the opening's checks have passed
 pub opening-valid : (q offset : ℕ) (c : Catalogue) (lent : IndexLent) (s : Settings) (k : Counters) → openingRefusal q offset c lent s k ≡ 0 → Valid c

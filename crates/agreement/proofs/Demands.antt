@@ -6,10 +6,10 @@ use Prim.Native.Nat.{ℕ}
 use native.Mathlib.Omega.{arith}
 use Rattle.catalogue.specs.Catalogue.{Catalogue}
 use Rattle.ledger.specs.Booking.{Counters}
-use Rattle.audit.specs.declared.settings.Settings.{Settings}
-use Rattle.audit.specs.Settings.{Held, auditSeed, auditOffset}
-use Rattle.audit.specs.Opening.{IndexLent, columns, none, openingRefusal, openingHeld}
-use Rattle.audit.specs.Run.{Call, next, after}
+use Rattle.audit_rules.specs.declared.settings.Settings.{Settings}
+use Rattle.audit_rules.specs.Settings.{Held, auditSeed, auditOffset}
+use Rattle.audit_rules.specs.Opening.{IndexLent, columns, none, openingRefusal, openingHeld}
+use Rattle.audit_rules.specs.Run.{Call, next, after}
 use Rattle.agreement.specs.Meaning.{RunMeans, Reconciled, CanBeLeftOut}
 use Rattle.agreement.specs.Twins.{TwinCall, RefusedTogether, RunsAgree}
 use Rattle.agreement.proofs.Running.{spare-call}

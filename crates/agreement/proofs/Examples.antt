@@ -15,9 +15,9 @@ use Rattle.indexed_mapper.specs.Board as board
 use Rattle.indexed_mapper.proofs.Board.{board-holds}
 use Rattle.ledger.specs.Booking.{countable}
 use Rattle.ledger.specs.Balance.{balanced}
-use Rattle.audit.specs.Opening.{openingRefusal}
-use Rattle.audit.specs.Fragment.{fragmentRefusal}
-use Rattle.audit.specs.Sheet.{finishRefusal}
+use Rattle.audit_rules.specs.Opening.{openingRefusal}
+use Rattle.audit_rules.specs.Fragment.{fragmentRefusal}
+use Rattle.audit_rules.specs.Sheet.{finishRefusal}
 use Rattle.agreement.specs.Examples.{catchRun, RunHolds, examples, AllHold, mapper}
 
 catch-holds : RunHolds catchRun

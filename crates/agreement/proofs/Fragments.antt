@@ -21,10 +21,10 @@ use Rattle.index_search.specs.Work.{Way, byIndex, plain}
 use Rattle.indexed_mapper.specs.Laws.{turnedGroups}
 use Rattle.indexed_mapper.proofs.Matching.{as-many}
 use Rattle.ledger.specs.Booking.{Booked, Books, targetsOf, ledgerWith, countersWith, bookedOne, bookedAll}
-use Rattle.audit.specs.declared.settings.Settings.{Settings}
-use Rattle.audit.specs.Observing.{MateRead, readRefusal, readListed, readEntries, readRow, readBooked}
-use Rattle.audit.specs.Fragment.{firstOf}
-use Rattle.audit.proofs.Parts.{InParts}
+use Rattle.audit_rules.specs.declared.settings.Settings.{Settings}
+use Rattle.audit_rules.specs.Observing.{MateRead, readRefusal, readListed, readEntries, readRow, readBooked}
+use Rattle.audit_rules.specs.Fragment.{firstOf}
+use Rattle.audit_rules.proofs.Parts.{InParts}
 use Rattle.agreement.specs.Placements.{placementsIn, placementsIf, turnedPlacements}
 use Rattle.agreement.specs.Twins.{TwinRead, turnedMate, plainMate, ReadAgrees, ReadsAgree}
 use Rattle.agreement.proofs.Placing.{placementOf, placements-listed, placements-turned}

@@ -14,14 +14,14 @@ use Rattle.index_search.specs.Work.{Way, workBy}
 use Rattle.answers.specs.Answer.{Row}
 use Rattle.indexed_mapper.specs.Match.{Lists}
 use Rattle.indexed_mapper.proofs.Laws.{row-lists}
-use Rattle.audit.specs.declared.settings.Settings.{Settings}
-use Rattle.audit.specs.Settings.{Held}
-use Rattle.audit.specs.Opening.{wayOf}
-use Rattle.audit.specs.Observing.{MateRead, isSearched, readRow, readEntries}
-use Rattle.audit.specs.Fragment.{shareOf, entriesLeft, fragmentRefusal, fragmentWritten}
-use Rattle.audit.specs.Run.{Call, answerTo, next}
-use Rattle.audit.proofs.Checking.{Checked, fragment-checked}
-use Rattle.audit.proofs.Parts.{InParts, reads-in-parts}
+use Rattle.audit_rules.specs.declared.settings.Settings.{Settings}
+use Rattle.audit_rules.specs.Settings.{Held}
+use Rattle.audit_rules.specs.Opening.{wayOf}
+use Rattle.audit_rules.specs.Observing.{MateRead, isSearched, readRow, readEntries}
+use Rattle.audit_rules.specs.Fragment.{shareOf, entriesLeft, fragmentRefusal, fragmentWritten}
+use Rattle.audit_rules.specs.Run.{Call, answerTo, next}
+use Rattle.audit_rules.proofs.Checking.{Checked, fragment-checked}
+use Rattle.audit_rules.proofs.Parts.{InParts, reads-in-parts}
 use Rattle.agreement.specs.Meaning.{ReadsListed, CallsListed}
 use Rattle.agreement.proofs.Catalogues.{opening-valid}
 

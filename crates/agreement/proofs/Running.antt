@@ -8,12 +8,12 @@ use Rattle.catalogue.specs.Catalogue.{Catalogue, suppliedPlaces}
 use Rattle.scan.specs.Entries.{entryCount}
 use Rattle.ledger.specs.Booking.{bookedAll, countable}
 use Rattle.ledger.proofs.Booking.{booked-append}
-use Rattle.audit.specs.Settings.{Held, booksOf}
-use Rattle.audit.specs.Fragment.{fragmentRefusal, fragmentBooked, heldAfter}
-use Rattle.audit.proofs.Checking.{fragment-checked}
-use Rattle.audit.proofs.Calls.{refused-holds}
+use Rattle.audit_rules.specs.Settings.{Held, booksOf}
+use Rattle.audit_rules.specs.Fragment.{fragmentRefusal, fragmentBooked, heldAfter}
+use Rattle.audit_rules.proofs.Checking.{fragment-checked}
+use Rattle.audit_rules.proofs.Calls.{refused-holds}
 use Rattle.agreement.specs.Meaning.{CanBeLeftOut}
-use Rattle.audit.specs.Run.{Call, Answer, ifAccepted, answerTo, next, books, answers, after, history}
+use Rattle.audit_rules.specs.Run.{Call, Answer, ifAccepted, answerTo, next, books, answers, after, history}
 
 -- ---- a fragment's own refusal
 

@@ -27,18 +27,18 @@ use Rattle.ledger.specs.Counting.{readsIn, readsOf, anyIndeterminate, placement
 use Rattle.ledger.proofs.Booking.{booked-lengths}
 use Rattle.ledger.proofs.Counting.{booked-counts}
 use Rattle.ledger.proofs.Balancing.{states-sum, counts-balanced}
-use Rattle.audit.specs.declared.settings.AuditInputMode.{AuditInputMode}
-use Rattle.audit.specs.declared.settings.AuditInputMode.the-variants as modes
-use Rattle.audit.specs.declared.settings.Settings.{Settings}
-use Rattle.audit.specs.declared.sheet.Status.{Status}
-use Rattle.audit.specs.declared.sheet.Status.the-variants as statuses
-use Rattle.audit.specs.declared.sheet.PlacementTotals.{PlacementTotals}
-use Rattle.audit.specs.declared.sheet.Sheet.{Sheet}
-use Rattle.audit.specs.Settings.{Held, booksOf, floorRight, rolesOf, statesShown}
-use Rattle.audit.specs.Observing.{readBooked}
-use Rattle.audit.specs.Opening.{IndexLent, indexRight, countersRight, started, openingRefusal, openingHeld, opened}
-use Rattle.audit.specs.Sheet.{shown, totalsOf, runStatus, sheetOf, roleShown, targetShown, finishRefusal, finishAnswer}
-use Rattle.audit.specs.Run.{Call, after, history}
+use Rattle.audit_rules.specs.declared.settings.AuditInputMode.{AuditInputMode}
+use Rattle.audit_rules.specs.declared.settings.AuditInputMode.the-variants as modes
+use Rattle.audit_rules.specs.declared.settings.Settings.{Settings}
+use Rattle.audit_rules.specs.declared.sheet.Status.{Status}
+use Rattle.audit_rules.specs.declared.sheet.Status.the-variants as statuses
+use Rattle.audit_rules.specs.declared.sheet.PlacementTotals.{PlacementTotals}
+use Rattle.audit_rules.specs.declared.sheet.Sheet.{Sheet}
+use Rattle.audit_rules.specs.Settings.{Held, booksOf, floorRight, rolesOf, statesShown}
+use Rattle.audit_rules.specs.Observing.{readBooked}
+use Rattle.audit_rules.specs.Opening.{IndexLent, indexRight, countersRight, started, openingRefusal, openingHeld, opened}
+use Rattle.audit_rules.specs.Sheet.{shown, totalsOf, runStatus, sheetOf, roleShown, targetShown, finishRefusal, finishAnswer}
+use Rattle.audit_rules.specs.Run.{Call, after, history}
 use Rattle.agreement.specs.Meaning.{SheetMeans}
 use Rattle.agreement.proofs.Catalogues.{opening-valid, places-ranked, target-ranked}
 use Rattle.agreement.proofs.Booking.{shown-few, state-shown, read-bookable, settings-after, history-all}

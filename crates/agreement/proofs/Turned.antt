@@ -26,8 +26,8 @@ use Rattle.answers.specs.Answer.{stateOf, listed}
 use Rattle.indexed_mapper.specs.Laws.{turnedGroups}
 use Rattle.indexed_mapper.proofs.Laws.{row-groups, row-work, number-turned, listed-turned}
 use Rattle.ledger.specs.Booking.{targetsOf}
-use Rattle.audit.specs.declared.settings.Settings.{Settings}
-use Rattle.audit.specs.Observing.{MateRead, verdictRefusal, isEligible, readRefusal, isSearched, unsearched, readListed, readRow}
+use Rattle.audit_rules.specs.declared.settings.Settings.{Settings}
+use Rattle.audit_rules.specs.Observing.{MateRead, verdictRefusal, isEligible, readRefusal, isSearched, unsearched, readListed, readRow}
 use Rattle.agreement.specs.Twins.{turnedMate}
 
 -- ---- the ranks of a turned read's groups

@@ -12,16 +12,16 @@ use Rattle.bases.specs.Read.{absent}
 use Rattle.catalogue.specs.Catalogue.{Catalogue, targets}
 use Rattle.answers.specs.Answer.{Row, row}
 use Rattle.indexed_mapper.specs.Board as board
-use Rattle.audit.specs.declared.settings.AuditInputMode.the-variants as modes
-use Rattle.audit.specs.declared.settings.MateRole.the-variants as roles
-use Rattle.audit.specs.declared.settings.Settings.{Settings}
-use Rattle.audit.specs.declared.sheet.Status.the-variants as statuses
-use Rattle.audit.specs.declared.sheet.Availability.the-variants as totals
-use Rattle.audit.specs.declared.sheet.Shown.{Shown}
-use Rattle.audit.specs.Settings.{Held, auditSeed, auditOffset}
-use Rattle.audit.specs.Opening.{IndexLent, columns, openingRefusal, started}
-use Rattle.audit.specs.Sheet.{shown, totalsOf, statusWord, sheetOf, countsShown, targetsShown, finishRefusal}
-use Rattle.audit.specs.Run.{Call, Answer, answers, after}
+use Rattle.audit_rules.specs.declared.settings.AuditInputMode.the-variants as modes
+use Rattle.audit_rules.specs.declared.settings.MateRole.the-variants as roles
+use Rattle.audit_rules.specs.declared.settings.Settings.{Settings}
+use Rattle.audit_rules.specs.declared.sheet.Status.the-variants as statuses
+use Rattle.audit_rules.specs.declared.sheet.Availability.the-variants as totals
+use Rattle.audit_rules.specs.declared.sheet.Shown.{Shown}
+use Rattle.audit_rules.specs.Settings.{Held, auditSeed, auditOffset}
+use Rattle.audit_rules.specs.Opening.{IndexLent, columns, openingRefusal, started}
+use Rattle.audit_rules.specs.Sheet.{shown, totalsOf, statusWord, sheetOf, countsShown, targetsShown, finishRefusal}
+use Rattle.audit_rules.specs.Run.{Call, Answer, answers, after}
 use Rattle.agreement.specs.Placements.{Placement, placementsIn}
 
 -- a run with one index throughout: its calls, and what is seen of it

@@ -14,16 +14,16 @@ use Rattle.indexed_mapper.specs.Match.{Lists, rankOf}
 use Rattle.ledger.specs.Booking.{Booked, Counters}
 use Rattle.ledger.specs.Balance.{sum, countOf}
 use Rattle.ledger.specs.Counting.{Counts, readsIn, readsOf, anyIndeterminate, placementsOn, singlesOn, multiOn}
-use Rattle.audit.specs.declared.settings.Settings.{Settings}
-use Rattle.audit.specs.declared.sheet.Status.the-variants as statuses
-use Rattle.audit.specs.declared.sheet.Availability.the-variants as totals
-use Rattle.audit.specs.declared.sheet.Sheet.{Sheet}
-use Rattle.audit.specs.Settings.{Held, booksOf, rolesOf}
-use Rattle.audit.specs.Opening.{IndexLent}
-use Rattle.audit.specs.Observing.{MateRead, isSearched}
-use Rattle.audit.specs.Fragment.{shareOf}
-use Rattle.audit.specs.Sheet.{shown, totalsOf, runStatus, roleShown, targetShown, finishRefusal, finishAnswer}
-use Rattle.audit.specs.Run.{Call, answerTo, next, answers, after, history}
+use Rattle.audit_rules.specs.declared.settings.Settings.{Settings}
+use Rattle.audit_rules.specs.declared.sheet.Status.the-variants as statuses
+use Rattle.audit_rules.specs.declared.sheet.Availability.the-variants as totals
+use Rattle.audit_rules.specs.declared.sheet.Sheet.{Sheet}
+use Rattle.audit_rules.specs.Settings.{Held, booksOf, rolesOf}
+use Rattle.audit_rules.specs.Opening.{IndexLent}
+use Rattle.audit_rules.specs.Observing.{MateRead, isSearched}
+use Rattle.audit_rules.specs.Fragment.{shareOf}
+use Rattle.audit_rules.specs.Sheet.{shown, totalsOf, runStatus, roleShown, targetShown, finishRefusal, finishAnswer}
+use Rattle.audit_rules.specs.Run.{Call, answerTo, next, answers, after, history}
 
 -- each read that is searched, its row, and its part of the entries before and after: the row says whether there are more matches than
 -- the limit, and otherwise each match is listed once, ascending; the parts have `width` numbers, the first from `from` on

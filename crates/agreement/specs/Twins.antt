@@ -9,14 +9,14 @@ use Rattle.bases.specs.Read.{turned}
 use Rattle.catalogue.specs.Catalogue.{Catalogue}
 use Rattle.scan.specs.Entries.{entryCount}
 use Rattle.answers.specs.Answer.{Row}
-use Rattle.audit.specs.declared.settings.Settings.{Settings}
-use Rattle.audit.specs.declared.sheet.Sheet.{Sheet}
-use Rattle.audit.specs.Settings.{Held}
-use Rattle.audit.specs.Opening.{columns, none}
-use Rattle.audit.specs.Observing.{MateRead}
-use Rattle.audit.specs.Fragment.{shareOf}
-use Rattle.audit.specs.Sheet.{finishAnswer, targetsShown}
-use Rattle.audit.specs.Run.{Call, Answer, answers, after}
+use Rattle.audit_rules.specs.declared.settings.Settings.{Settings}
+use Rattle.audit_rules.specs.declared.sheet.Sheet.{Sheet}
+use Rattle.audit_rules.specs.Settings.{Held}
+use Rattle.audit_rules.specs.Opening.{columns, none}
+use Rattle.audit_rules.specs.Observing.{MateRead}
+use Rattle.audit_rules.specs.Fragment.{shareOf}
+use Rattle.audit_rules.specs.Sheet.{finishAnswer, targetsShown}
+use Rattle.audit_rules.specs.Run.{Call, Answer, answers, after}
 use Rattle.agreement.specs.Placements.{placementsIn, placementsIf}
 
 -- ---- one list of calls for both

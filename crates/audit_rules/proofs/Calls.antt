@@ -12,11 +12,11 @@ use Rattle.places.specs.Place.{groups}
 use Rattle.candidates.specs.Search.{compared}
 use Rattle.index_search.specs.Work.{work}
 use Rattle.index_search.specs.declared.work.MappingWork.{MappingWork}
-use Rattle.audit.specs.declared.settings.Settings.{Settings}
-use Rattle.audit.specs.Settings.{Held}
-use Rattle.audit.specs.Opening.{IndexLent, columns, wayOf}
-use Rattle.audit.specs.Observing.{MateRead, isSearched, readRow}
-use Rattle.audit.specs.Fragment.{Fragment, heldAfter}
+use Rattle.audit_rules.specs.declared.settings.Settings.{Settings}
+use Rattle.audit_rules.specs.Settings.{Held}
+use Rattle.audit_rules.specs.Opening.{IndexLent, columns, wayOf}
+use Rattle.audit_rules.specs.Observing.{MateRead, isSearched, readRow}
+use Rattle.audit_rules.specs.Fragment.{Fragment, heldAfter}
 
 -- a refused call leaves state and counters as they were
 pub refused-holds : (q offset : ℕ) (c : Catalogue) (lent : IndexLent) (h : Held) (f : Fragment) (n : ℕ) → (n ≡ 0 → ⊥) → heldAfter q offset c lent h f n ≡ h

@@ -10,8 +10,8 @@ use Rattle.index.specs.Index.{index, columnsOf}
 use Rattle.index_search.specs.Work.{Way, byIndex, plain}
 use Rattle.answers.specs.Bounds.{limitRight}
 use Rattle.ledger.specs.Booking.{Counters, emptyCounters}
-use Rattle.audit.specs.declared.settings.Settings.{Settings}
-use Rattle.audit.specs.Settings.{Held, floorRight, freshState, zeroState}
+use Rattle.audit_rules.specs.declared.settings.Settings.{Settings}
+use Rattle.audit_rules.specs.Settings.{Held, floorRight, freshState, zeroState}
 
 -- the index that an audit is lent: three columns of postings, or none
 pub data IndexLent : Type 0 where

@@ -4,12 +4,12 @@ use mathlib.Core.Path.{_≡_, refl}
 use mathlib.Core.Bool.{Bool, true, false}
 use Rattle.catalogue.specs.Catalogue.{Target, isMapped}
 use Rattle.ledger.specs.Booking.{Counters}
-use Rattle.audit.specs.declared.sheet.Availability.{Availability}
-use Rattle.audit.specs.declared.sheet.Availability.the-variants as totals
-use Rattle.audit.specs.declared.sheet.PlacementTotals.{PlacementTotals}
-use Rattle.audit.specs.declared.sheet.Sheet.{Sheet}
-use Rattle.audit.specs.Settings.{Held}
-use Rattle.audit.specs.Sheet.{shown, runStatus, sheetOf, targetShown}
+use Rattle.audit_rules.specs.declared.sheet.Availability.{Availability}
+use Rattle.audit_rules.specs.declared.sheet.Availability.the-variants as totals
+use Rattle.audit_rules.specs.declared.sheet.PlacementTotals.{PlacementTotals}
+use Rattle.audit_rules.specs.declared.sheet.Sheet.{Sheet}
+use Rattle.audit_rules.specs.Settings.{Held}
+use Rattle.audit_rules.specs.Sheet.{shown, runStatus, sheetOf, targetShown}
 
 hidden : (remap : Bool) (t : PlacementTotals) → shown (runStatus remap true) t .totals ≡ totals.Unavailable
 hidden true t = refl

@@ -5,13 +5,13 @@ use Prim.Native.Nat.{ℕ, _-_}
 use lib.Dec.{leb}
 use Rattle.bases.specs.Eligibility.{lastQuality}
 use Rattle.ledger.specs.Booking.{Counters, Books, emptyLedger}
-use Rattle.audit.specs.declared.settings.AuditInputMode.{AuditInputMode}
-use Rattle.audit.specs.declared.settings.AuditInputMode.the-variants as modes
-use Rattle.audit.specs.declared.settings.MateRole.{MateRole}
-use Rattle.audit.specs.declared.settings.MateRole.the-variants as roles
-use Rattle.audit.specs.declared.settings.Settings.{Settings}
-use Rattle.audit.specs.declared.settings.LastOrdinal.the-variants as ordinals
-use Rattle.audit.specs.declared.settings.AuditState.{AuditState}
+use Rattle.audit_rules.specs.declared.settings.AuditInputMode.{AuditInputMode}
+use Rattle.audit_rules.specs.declared.settings.AuditInputMode.the-variants as modes
+use Rattle.audit_rules.specs.declared.settings.MateRole.{MateRole}
+use Rattle.audit_rules.specs.declared.settings.MateRole.the-variants as roles
+use Rattle.audit_rules.specs.declared.settings.Settings.{Settings}
+use Rattle.audit_rules.specs.declared.settings.LastOrdinal.the-variants as ordinals
+use Rattle.audit_rules.specs.declared.settings.AuditState.{AuditState}
 
 -- ---- what is the same for every audit
 

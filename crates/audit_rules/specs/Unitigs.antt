@@ -8,12 +8,12 @@ use Rattle.lists.specs.Same.{same}
 use Rattle.promises.specs.Refusal.{unless, _orElse_}
 use Rattle.catalogue.specs.Catalogue.{Catalogue, Target, targets, inBounds}
 use Rattle.ledger.specs.Booking.{Counters}
-use Rattle.audit.specs.declared.sheet.Availability.{Availability}
-use Rattle.audit.specs.declared.sheet.Availability.the-variants as totals
-use Rattle.audit.specs.declared.sheet.Shown.{Shown}
-use Rattle.audit.specs.declared.sheet.Sheet.{Sheet}
-use Rattle.audit.specs.Opening.{countersRight}
-use Rattle.audit.specs.Sheet.{statusNumber, targetsShown}
+use Rattle.audit_rules.specs.declared.sheet.Availability.{Availability}
+use Rattle.audit_rules.specs.declared.sheet.Availability.the-variants as totals
+use Rattle.audit_rules.specs.declared.sheet.Shown.{Shown}
+use Rattle.audit_rules.specs.declared.sheet.Sheet.{Sheet}
+use Rattle.audit_rules.specs.Opening.{countersRight}
+use Rattle.audit_rules.specs.Sheet.{statusNumber, targetsShown}
 
 -- the same identifier and topology
 abbrev pub alike : Target → Target → Bool

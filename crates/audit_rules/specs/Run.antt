@@ -6,9 +6,9 @@ use Rattle.catalogue.specs.Catalogue.{Catalogue}
 use Rattle.scan.specs.Entries.{entryCount}
 use Rattle.answers.specs.Answer.{Row}
 use Rattle.ledger.specs.Booking.{Booked}
-use Rattle.audit.specs.Settings.{Held}
-use Rattle.audit.specs.Opening.{IndexLent}
-use Rattle.audit.specs.Fragment.{Fragment, fragmentRefusal, fragmentAnswer, fragmentHeld, fragmentEntries, fragmentBooked}
+use Rattle.audit_rules.specs.Settings.{Held}
+use Rattle.audit_rules.specs.Opening.{IndexLent}
+use Rattle.audit_rules.specs.Fragment.{Fragment, fragmentRefusal, fragmentAnswer, fragmentHeld, fragmentEntries, fragmentBooked}
 
 -- a fragment call, with what is lent at it
 pub record Call : Type 0 where

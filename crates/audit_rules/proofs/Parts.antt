@@ -19,12 +19,12 @@ use Rattle.scan.specs.Entries.{entryCount, cleared}
 use Rattle.scan.proofs.Going.{length-entries}
 use Rattle.answers.proofs.Concluding.{length-cleared}
 use Rattle.search.proofs.Parts.{listed-room}
-use Rattle.audit.specs.declared.settings.AuditInputMode.{AuditInputMode}
-use Rattle.audit.specs.declared.settings.AuditInputMode.the-variants as modes
-use Rattle.audit.specs.declared.settings.Settings.{Settings}
-use Rattle.audit.specs.Settings.{roleNumber, rolesOf}
-use Rattle.audit.specs.Observing.{MateRead, readGroups, readRoom, readListed, readEntries}
-use Rattle.audit.specs.Fragment.{rolesRight, firstOf, shareOf, inParts}
+use Rattle.audit_rules.specs.declared.settings.AuditInputMode.{AuditInputMode}
+use Rattle.audit_rules.specs.declared.settings.AuditInputMode.the-variants as modes
+use Rattle.audit_rules.specs.declared.settings.Settings.{Settings}
+use Rattle.audit_rules.specs.Settings.{roleNumber, rolesOf}
+use Rattle.audit_rules.specs.Observing.{MateRead, readGroups, readRoom, readListed, readEntries}
+use Rattle.audit_rules.specs.Fragment.{rolesRight, firstOf, shareOf, inParts}
 
 -- ---- lists put into parts
 

@@ -9,11 +9,11 @@ use Rattle.promises.proofs.Refusing.{none-first, none-second, passed}
 use Rattle.catalogue.specs.Catalogue.{Catalogue}
 use Rattle.index.specs.Index.{mappedSequences}
 use Rattle.ledger.specs.Booking.{countable}
-use Rattle.audit.specs.declared.settings.Settings.{Settings}
-use Rattle.audit.specs.Settings.{Held}
-use Rattle.audit.specs.Opening.{IndexLent, openingRefusal}
-use Rattle.audit.specs.Observing.{readRefusal, readRoom}
-use Rattle.audit.specs.Fragment.{Fragment, inOrder, rolesRight, firstOf, shareOf, fragmentRefusal, fragmentBooks}
+use Rattle.audit_rules.specs.declared.settings.Settings.{Settings}
+use Rattle.audit_rules.specs.Settings.{Held}
+use Rattle.audit_rules.specs.Opening.{IndexLent, openingRefusal}
+use Rattle.audit_rules.specs.Observing.{readRefusal, readRoom}
+use Rattle.audit_rules.specs.Fragment.{Fragment, inOrder, rolesRight, firstOf, shareOf, fragmentRefusal, fragmentBooks}
 
 -- every check has passed
 pub record Checked (q offset : ℕ) (c : Catalogue) (lent : IndexLent) (h : Held) (f : Fragment) (entries : ℕ) : Type 0 where

@@ -9,14 +9,14 @@ use Rattle.promises.specs.Refusal.{unless, _orElse_, Outcome, outcome}
 use Rattle.catalogue.specs.Catalogue.{Catalogue, Target, targets, isMapped}
 use Rattle.ledger.specs.Booking.{Counters}
 use Rattle.ledger.specs.Balance.{countOf, balanced}
-use Rattle.audit.specs.declared.sheet.Status.{Status}
-use Rattle.audit.specs.declared.sheet.Status.the-variants as statuses
-use Rattle.audit.specs.declared.sheet.PlacementTotals.{PlacementTotals}
-use Rattle.audit.specs.declared.sheet.Availability.the-variants as totals
-use Rattle.audit.specs.declared.sheet.Shown.{Shown}
-use Rattle.audit.specs.declared.sheet.Sheet.{Sheet}
-use Rattle.audit.specs.Settings.{Held, booksOf, rolesOf, statesShown}
-use Rattle.audit.specs.Opening.{IndexLent, openingRefusal}
+use Rattle.audit_rules.specs.declared.sheet.Status.{Status}
+use Rattle.audit_rules.specs.declared.sheet.Status.the-variants as statuses
+use Rattle.audit_rules.specs.declared.sheet.PlacementTotals.{PlacementTotals}
+use Rattle.audit_rules.specs.declared.sheet.Availability.the-variants as totals
+use Rattle.audit_rules.specs.declared.sheet.Shown.{Shown}
+use Rattle.audit_rules.specs.declared.sheet.Sheet.{Sheet}
+use Rattle.audit_rules.specs.Settings.{Held, booksOf, rolesOf, statesShown}
+use Rattle.audit_rules.specs.Opening.{IndexLent, openingRefusal}
 
 -- ---- statuses
 

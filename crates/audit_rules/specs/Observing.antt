@@ -13,9 +13,9 @@ use Rattle.answers.specs.Bounds.{lengthRight}
 use Rattle.answers.specs.Answer.{Row, row, listed, mappedRow, roomRefusal}
 use Rattle.index_search.specs.declared.work.MappingWork.{MappingWork}
 use Rattle.ledger.specs.Booking.{Booked}
-use Rattle.audit.specs.declared.settings.MateRole.{MateRole}
-use Rattle.audit.specs.declared.settings.Settings.{Settings}
-use Rattle.audit.specs.Settings.{roleNumber}
+use Rattle.audit_rules.specs.declared.settings.MateRole.{MateRole}
+use Rattle.audit_rules.specs.declared.settings.Settings.{Settings}
+use Rattle.audit_rules.specs.Settings.{roleNumber}
 
 -- a read with its role
 pub record MateRead : Type 0 where

@@ -11,14 +11,14 @@ use Rattle.index.specs.Index.{mappedSequences}
 use Rattle.scan.specs.Entries.{entryCount, cleared}
 use Rattle.answers.specs.Answer.{Row}
 use Rattle.ledger.specs.Booking.{Booked, Books, bookedAll, countable}
-use Rattle.audit.specs.declared.settings.AuditInputMode.{AuditInputMode}
-use Rattle.audit.specs.declared.settings.AuditInputMode.the-variants as modes
-use Rattle.audit.specs.declared.settings.Settings.{Settings}
-use Rattle.audit.specs.declared.settings.LastOrdinal.{LastOrdinal}
-use Rattle.audit.specs.declared.settings.LastOrdinal.the-variants as ordinals
-use Rattle.audit.specs.Settings.{Held, booksOf, roleNumber, rolesOf}
-use Rattle.audit.specs.Opening.{IndexLent, wayOf, openingRefusal}
-use Rattle.audit.specs.Observing.{MateRead, readRefusal, readRoom, readRow, readBooked, readEntries}
+use Rattle.audit_rules.specs.declared.settings.AuditInputMode.{AuditInputMode}
+use Rattle.audit_rules.specs.declared.settings.AuditInputMode.the-variants as modes
+use Rattle.audit_rules.specs.declared.settings.Settings.{Settings}
+use Rattle.audit_rules.specs.declared.settings.LastOrdinal.{LastOrdinal}
+use Rattle.audit_rules.specs.declared.settings.LastOrdinal.the-variants as ordinals
+use Rattle.audit_rules.specs.Settings.{Held, booksOf, roleNumber, rolesOf}
+use Rattle.audit_rules.specs.Opening.{IndexLent, wayOf, openingRefusal}
+use Rattle.audit_rules.specs.Observing.{MateRead, readRefusal, readRoom, readRow, readBooked, readEntries}
 
 pub record Fragment : Type 0 where
   pub ordinal : ℕ

@@ -1,3 +1,0 @@
-// The audit: its settings and its state.
-pub mod settings;
-pub mod sheet;
