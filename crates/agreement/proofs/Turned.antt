@@ -27,7 +27,7 @@ use Rattle.indexed_mapper.specs.Laws.{turnedGroups}
 use Rattle.indexed_mapper.proofs.Laws.{row-groups, row-work, number-turned, listed-turned}
 use Rattle.ledger.specs.Booking.{targetsOf}
 use Rattle.audit_rules.specs.declared.settings.Settings.{Settings}
-use Rattle.audit_rules.specs.Observing.{MateRead, verdictRefusal, isEligible, readRefusal, isSearched, unsearched, readListed, readRow}
+use Rattle.audit_rules.specs.Observing.{MateRead, verdictRefusal, isEligible, readRefusal, isSearched, readListed, readRow}
 use Rattle.agreement.specs.Twins.{turnedMate}
 
 -- ---- the ranks of a turned read's groups
@@ -81,7 +81,7 @@ module _ (offset : ℕ) (s : Settings) where
 
     -- the state of a read, however it is searched
     abbrev stateBy : Bool → List Place → ℕ
-    stateBy b gs = cond b (cond (ltb (s .limit) (length gs)) 2 (stateOf (length gs))) (unsearched offset s)
+    stateBy b gs = cond b (cond (ltb (s .limit) (length gs)) 2 (stateOf (length gs))) (cond (s .remap) 1 0)
 
     row-state : (way : Way) (m : MateRead) → readRow offset s ss way m .state ≡ stateBy (isSearched offset s m) (groups ss (m .read .bases))
     row-state way m =

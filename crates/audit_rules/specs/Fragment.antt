@@ -36,7 +36,7 @@ abbrev pub rolesRight : AuditInputMode → List MateRead → Bool
 rolesRight mode reads = same (map (λ (r : MateRead). roleNumber (r .role)) reads) (rolesOf mode)
 
 -- the first refusal of some reads, each by a check
-abbrev pub firstOf : (MateRead → ℕ) → List MateRead → ℕ
+abbrev pub firstOf : {A : Type 0} → (A → ℕ) → List A → ℕ
 firstOf check [] = 0
 firstOf check (r ∷ rs) = check r orElse firstOf check rs
 

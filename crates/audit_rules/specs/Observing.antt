@@ -37,7 +37,36 @@ isEligible eligible = true
 abbrev pub noWork : MappingWork
 noWork = workOf 0 0 0 (record { comparisons = 0; seen = 0 })
 
--- ---- under settings, with qualities from an offset on
+-- ---- a read that passed its checks
+
+-- whether it is searched, and its bases
+pub record Sight : Type 0 where
+  pub searched : Bool
+  pub bases : List ℕ
+
+-- a read in sequences by rank
+module _ (s : Settings) (ss : List (List ℕ)) where
+  -- its groups; a read that is not searched has none
+  abbrev pub sightGroups : Sight → List Place
+  sightGroups r = cond (r .searched) (groups ss (r .bases)) []
+
+  -- 10, where it has so many entries
+  abbrev pub sightRoom : ℕ → Sight → ℕ
+  sightRoom entries r = roomRefusal entries (s .limit) (length (sightGroups r))
+
+  -- its listed groups
+  abbrev pub sightListed : Sight → List Place
+  sightListed r = listed (s .limit) (sightGroups r)
+
+  -- the entries of its listed groups; `ranked` holds the supplied place of each rank
+  abbrev pub sightEntries : List ℕ → Sight → List ℕ
+  sightEntries ranked r = entriesOf ranked (length (r .bases)) (sightListed r)
+
+  -- its state, the number of its listed groups, and the work of its search; not searched it is Ineligible with remap on, else NotRequested
+  abbrev pub sightRow : Way → Sight → Row
+  sightRow way r = cond (r .searched) (mappedRow (s .limit) (groups ss (r .bases)) (workBy way ss (r .bases) (s .limit))) (row (cond (s .remap) 1 0) 0 noWork)
+
+-- ---- a read with its role, under settings, with qualities from an offset on
 
 module _ (offset : ℕ) (s : Settings) where
   -- 7, and with remap on 14 to 16
@@ -48,31 +77,24 @@ module _ (offset : ℕ) (s : Settings) where
   abbrev pub isSearched : MateRead → Bool
   isSearched r = s .remap && isEligible (eligibility (s .floor) offset (r .read))
 
-  -- the state of a read that is not searched: 0 is NotRequested, 1 is Ineligible
-  abbrev pub unsearched : ℕ
-  unsearched = cond (s .remap) 1 0
+  abbrev pub sightOf : MateRead → Sight
+  sightOf r = record { searched = isSearched r; bases = r .read .bases }
 
-  -- a read in sequences by rank
   module _ (ss : List (List ℕ)) where
-    -- its groups; a read that is not searched has none
     abbrev pub readGroups : MateRead → List Place
-    readGroups r = cond (isSearched r) (groups ss (r .read .bases)) []
+    readGroups r = sightGroups s ss (sightOf r)
 
-    -- 10, where it has so many entries
     abbrev pub readRoom : ℕ → MateRead → ℕ
-    readRoom entries r = roomRefusal entries (s .limit) (length (readGroups r))
+    readRoom entries r = sightRoom s ss entries (sightOf r)
 
-    -- its listed groups
     abbrev pub readListed : MateRead → List Place
-    readListed r = listed (s .limit) (readGroups r)
+    readListed r = sightListed s ss (sightOf r)
 
-    -- the entries of its listed groups; `ranked` holds the supplied place of each rank
     abbrev pub readEntries : List ℕ → MateRead → List ℕ
-    readEntries ranked r = entriesOf ranked (length (r .read .bases)) (readListed r)
+    readEntries ranked r = sightEntries s ss ranked (sightOf r)
 
-    -- its state, the number of its listed groups, and the work of its search
     abbrev pub readRow : Way → MateRead → Row
-    readRow way r = cond (isSearched r) (mappedRow (s .limit) (groups ss (r .read .bases)) (workBy way ss (r .read .bases) (s .limit))) (row unsearched 0 noWork)
+    readRow way r = sightRow s ss way (sightOf r)
 
     -- what is booked of it
     abbrev pub readBooked : Way → MateRead → Booked
