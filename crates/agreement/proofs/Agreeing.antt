@@ -16,7 +16,7 @@ use Rattle.audit_rules.specs.declared.settings.LastOrdinal.the-variants as ordi
 use Rattle.audit_rules.specs.declared.sheet.Sheet.{Sheet}
 use Rattle.audit_rules.specs.Settings.{Held, booksOf}
 use Rattle.audit_rules.specs.Opening.{IndexLent, columns, none, openingRefusal, started, openingHeld}
-use Rattle.audit_rules.specs.Observing.{readRow}
+use Rattle.audit_rules.specs.Observing.{mateRow}
 use Rattle.audit_rules.specs.Fragment.{Fragment, shareOf, entriesLeft, fragmentRefusal, fragmentAccepted, heldAfter, fragmentWritten}
 use Rattle.audit_rules.specs.Sheet.{sheetOf, targetsShown, finishRefusal, finishAnswer}
 use Rattle.audit_rules.specs.Run.{Answer, answers, after}
@@ -45,7 +45,7 @@ module _ (q offset : ℕ) (some : 1 ≤ q) (c : Catalogue) (right : Valid c) whe
     module _ (z : fragmentRefusal q offset c lent h fragment (entryCount (x .entries)) ≡ 0) (z′ : fragmentRefusal q offset c none h plainFragment (entryCount (x .plainEntries)) ≡ 0) where
       -- both accept it: every read agrees
       fragment-agrees : ReadsAgree c (4 * shareOf (s .mode) (entryCount (x .entries))) (4 * shareOf (s .mode) (entryCount (x .plainEntries))) 0 0 (x .reads)
-          (map (readRow offset s (mappedSequences c) (byIndex q)) (fragment .reads)) (map (readRow offset s (mappedSequences c) plain) (plainFragment .reads))
+          (map (mateRow offset s (mappedSequences c) (byIndex q)) (fragment .reads)) (map (mateRow offset s (mappedSequences c) plain) (plainFragment .reads))
           (fragmentWritten q offset c lent h fragment (x .entries)) (fragmentWritten q offset c none h plainFragment (x .plainEntries))
       fragment-agrees =
           let a = fragment-checked q offset c lent h fragment (entryCount (x .entries)) z in
@@ -79,10 +79,10 @@ module _ (q offset : ℕ) (some : 1 ≤ q) (c : Catalogue) (right : Valid c) whe
       (calls-agree xs) (head-eq-of-cons-eq e) (tail-eq-of-cons-eq e)
     where
       first : ℕ → Answer
-      first k = record { rows = outcome k (map (readRow offset (h .state .settings) (mappedSequences c) (byIndex q)) (fragment h x .reads)); entries = entriesLeft k (fragmentWritten q offset c (lent h x) h (fragment h x) (x .entries)) (x .entries) }
+      first k = record { rows = outcome k (map (mateRow offset (h .state .settings) (mappedSequences c) (byIndex q)) (fragment h x .reads)); entries = entriesLeft k (fragmentWritten q offset c (lent h x) h (fragment h x) (x .entries)) (x .entries) }
 
       second : ℕ → Answer
-      second k = record { rows = outcome k (map (readRow offset (h .state .settings) (mappedSequences c) plain) (plainFragment h x .reads)); entries = entriesLeft k (fragmentWritten q offset c none h (plainFragment h x) (x .plainEntries)) (x .plainEntries) }
+      second k = record { rows = outcome k (map (mateRow offset (h .state .settings) (mappedSequences c) plain) (plainFragment h x .reads)); entries = entriesLeft k (fragmentWritten q offset c none h (plainFragment h x) (x .plainEntries)) (x .plainEntries) }
 
       next : ℕ → Held
       next k = heldAfter q offset c (lent h x) h (fragment h x) k

@@ -26,7 +26,7 @@ use Rattle.audit_rules.specs.declared.settings.MateRole.the-variants as roles
 use Rattle.audit_rules.specs.declared.settings.Settings.{Settings}
 use Rattle.audit_rules.specs.Settings.{Held, roleNumber, statesShown}
 use Rattle.audit_rules.specs.Opening.{wayOf}
-use Rattle.audit_rules.specs.Observing.{MateRead, isEligible, noWork, readBooked}
+use Rattle.audit_rules.specs.Observing.{MateRead, isEligible, noWork, mateBooked}
 use Rattle.audit_rules.specs.Fragment.{fragmentRefusal, fragmentBooked, heldAfter}
 use Rattle.agreement.proofs.Turned.{listed-∈}
 use Rattle.audit_rules.specs.Run.{Call, ifAccepted, next, books, after, history}
@@ -54,7 +54,7 @@ shown-few false n (inl e) = omega arith
 
 module _ (offset : ℕ) (s : Settings) (ss : List (List ℕ)) (way : Way) (r : MateRead) where
   -- its state is one that the sheet shows
-  pub state-shown : readBooked offset s ss way r .state ∈ statesShown (s .remap)
+  pub state-shown : mateBooked offset s ss way r .state ∈ statesShown (s .remap)
   state-shown = go (s .remap) (isEligible (eligibility (s .floor) offset (r .read)))
     where
       gs : List Place
@@ -66,7 +66,7 @@ module _ (offset : ℕ) (s : Settings) (ss : List (List ℕ)) (way : Way) (r : M
       go false fit = inl refl
 
   -- it can be booked
-  pub read-bookable : Bookable (length ss) (readBooked offset s ss way r)
+  pub read-bookable : Bookable (length ss) (mateBooked offset s ss way r)
   read-bookable =
       record {
         role = few-roles (r .role);
@@ -90,15 +90,15 @@ module _ (q offset : ℕ) (c : Catalogue) where
   settings-after h (x ∷ xs) = settings-after (next q offset c h x) xs ∙ settings-stay h x
 
   -- what holds of every read that is observed under the settings holds of the history
-  pub history-all : (s : Settings) (P : Booked → Type 0) → ((way : Way) (r : MateRead) → P (readBooked offset s (mappedSequences c) way r))
+  pub history-all : (s : Settings) (P : Booked → Type 0) → ((way : Way) (r : MateRead) → P (mateBooked offset s (mappedSequences c) way r))
       → (h : Held) → h .state .settings ≡ s → (xs : List Call) (b : Booked) → b ∈ history q offset c h xs → P b
   history-all s P all h e (x ∷ xs) b m =
       split (history-all s P all (next q offset c h x) (settings-stay h x ∙ e) xs b) (append-∈ b (books q offset c h x) (history q offset c (next q offset c h x) xs) m)
     where
       here : (n : ℕ) → b ∈ ifAccepted n (fragmentBooked q offset c (x .lent) h (x .fragment)) → P b
       here zero i =
-          let r = map-∈ (readBooked offset (h .state .settings) (mappedSequences c) (wayOf q (x .lent))) b (x .fragment .reads) i in
-          subst P (sym (r .2)) (subst (λ (u : Settings). P (readBooked offset u (mappedSequences c) (wayOf q (x .lent)) (r .0))) (sym e) (all (wayOf q (x .lent)) (r .0)))
+          let r = map-∈ (mateBooked offset (h .state .settings) (mappedSequences c) (wayOf q (x .lent))) b (x .fragment .reads) i in
+          subst P (sym (r .2)) (subst (λ (u : Settings). P (mateBooked offset u (mappedSequences c) (wayOf q (x .lent)) (r .0))) (sym e) (all (wayOf q (x .lent)) (r .0)))
 
       split : (b ∈ history q offset c (next q offset c h x) xs → P b) → (b ∈ books q offset c h x) ⊎ (b ∈ history q offset c (next q offset c h x) xs) → P b
       split later (inl i) = here (fragmentRefusal q offset c (x .lent) h (x .fragment) (entryCount (x .entries))) i

@@ -14,7 +14,7 @@ use Rattle.agreement.specs.Meaning.{RunMeans, Reconciled, CanBeLeftOut}
 use Rattle.agreement.specs.Twins.{TwinCall, RefusedTogether, RunsAgree}
 use Rattle.agreement.proofs.Running.{spare-call}
 use Rattle.agreement.proofs.Sheets.{run-counts, sheet-means, never-apart, role-shown}
-use Rattle.agreement.proofs.Listing.{calls-listed}
+use Rattle.agreement.proofs.Listing.{calls-mean}
 use Rattle.agreement.proofs.Agreeing.{runs-agree}
 
 -- Demand 2: "a complete answer lists each matching (linear target, start, strand) once, ascending; an accepted read is indeterminate
@@ -23,13 +23,13 @@ pub demand-two : (c : Catalogue) (lent : IndexLent) (s : Settings) (k : Counters
     → (xs : List Call) → RunMeans auditSeed auditOffset c s (openingHeld auditSeed auditOffset c lent s k) xs
 demand-two c lent s k begun xs =
     record {
-      calls = calls-listed auditSeed auditOffset c (openingHeld auditSeed auditOffset c lent s k) xs;
+      calls = calls-mean auditSeed auditOffset c (openingHeld auditSeed auditOffset c lent s k) xs;
       counts = run-counts auditSeed auditOffset c lent s k begun xs;
       sheet = sheet-means auditSeed auditOffset c lent s k begun xs;
     }
 
 -- Demand 3: "the audit by the index and the plain one that compares at every start agree, whichever reads the second gets turned round,
--- and the index never makes more full comparisons." The same targets and settings, neither opening refused; any list of fragment calls,
+-- and the index never makes more full comparisons", for each read that is not turned. The same targets and settings, neither opening refused; any list of fragment calls,
 -- refused ones included, `finish` last; no call refused by one audit alone. Placements are what stands in the entries that each is lent.
 pub demand-three : (c : Catalogue) (s : Settings) (k k′ : Counters) (ks rs os : List ℕ)
     → openingRefusal auditSeed auditOffset c (columns ks rs os) s k ≡ 0 → openingRefusal auditSeed auditOffset c none s k′ ≡ 0

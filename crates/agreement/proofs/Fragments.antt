@@ -22,7 +22,7 @@ use Rattle.indexed_mapper.specs.Laws.{turnedGroups}
 use Rattle.indexed_mapper.proofs.Matching.{as-many}
 use Rattle.ledger.specs.Booking.{Booked, Books, targetsOf, ledgerWith, countersWith, bookedOne, bookedAll}
 use Rattle.audit_rules.specs.declared.settings.Settings.{Settings}
-use Rattle.audit_rules.specs.Observing.{MateRead, readRefusal, readListed, readEntries, readRow, readBooked}
+use Rattle.audit_rules.specs.Observing.{MateRead, mateRefusal, mateListed, mateEntries, mateRow, mateBooked}
 use Rattle.audit_rules.specs.Fragment.{firstOf}
 use Rattle.audit_rules.proofs.Parts.{InParts}
 use Rattle.agreement.specs.Placements.{placementsIn, placementsIf, turnedPlacements}
@@ -50,45 +50,45 @@ module _ (q offset : ℕ) (some : 1 ≤ q) (c : Catalogue) (valid : Valid c) (s 
   -- ---- one read
 
   -- both audits book it alike
-  one-booked : (t : TwinRead) → readRefusal offset s (t .mate) ≡ 0 → readRefusal offset s (plainMate t) ≡ 0
-      → (books : Books) → bookedOne ranked (readBooked offset s ss (byIndex q) (t .mate)) books ≡ bookedOne ranked (readBooked offset s ss plain (plainMate t)) books
+  one-booked : (t : TwinRead) → mateRefusal offset s (t .mate) ≡ 0 → mateRefusal offset s (plainMate t) ≡ 0
+      → (books : Books) → bookedOne ranked (mateBooked offset s ss (byIndex q) (t .mate)) books ≡ bookedOne ranked (mateBooked offset s ss plain (plainMate t)) books
   one-booked t z z′ = go (t .turns) z′
     where
-      go : (b : Bool) → readRefusal offset s (cond b (turnedMate (t .mate)) (t .mate)) ≡ 0
-          → (books : Books) → bookedOne ranked (readBooked offset s ss (byIndex q) (t .mate)) books ≡ bookedOne ranked (readBooked offset s ss plain (cond b (turnedMate (t .mate)) (t .mate))) books
+      go : (b : Bool) → mateRefusal offset s (cond b (turnedMate (t .mate)) (t .mate)) ≡ 0
+          → (books : Books) → bookedOne ranked (mateBooked offset s ss (byIndex q) (t .mate)) books ≡ bookedOne ranked (mateBooked offset s ss plain (cond b (turnedMate (t .mate)) (t .mate))) books
       go true y =
-          booked-same ranked (readBooked offset s ss (byIndex q) (t .mate)) (readBooked offset s ss plain (turnedMate (t .mate))) refl
+          booked-same ranked (mateBooked offset s ss (byIndex q) (t .mate)) (mateBooked offset s ss plain (turnedMate (t .mate))) refl
           (state-turned offset s ss (t .mate) z y (byIndex q) plain) (targets-turned offset s ss (t .mate) z y ranked)
-      go false y = booked-same ranked (readBooked offset s ss (byIndex q) (t .mate)) (readBooked offset s ss plain (t .mate)) refl (state-same offset s ss (byIndex q) plain (t .mate)) refl
+      go false y = booked-same ranked (mateBooked offset s ss (byIndex q) (t .mate)) (mateBooked offset s ss plain (t .mate)) refl (state-same offset s ss (byIndex q) plain (t .mate)) refl
 
   -- the placements of a read stand in its part
-  part-shows : (way : Way) (m : MateRead) (part before : List ℕ) → part ≡ placed 0 (readEntries offset s ss ranked m) (cleared before)
-      → placementsIn (readRow offset s ss way m .groups) part ≡ map (placementOf ranked (length (m .read .bases))) (readListed offset s ss m)
+  part-shows : (way : Way) (m : MateRead) (part before : List ℕ) → part ≡ placed 0 (mateEntries offset s ss ranked m) (cleared before)
+      → placementsIn (mateRow offset s ss way m .groups) part ≡ map (placementOf ranked (length (m .read .bases))) (mateListed offset s ss m)
   part-shows way m part before e =
       ap₂ placementsIn (row-listed offset s ss way m) e
-      ∙ placements-listed ranked (length (m .read .bases)) (readListed offset s ss m) (drop (0 + length (readEntries offset s ss ranked m)) (cleared before))
+      ∙ placements-listed ranked (length (m .read .bases)) (mateListed offset s ss m) (drop (0 + length (mateEntries offset s ss ranked m)) (cleared before))
 
-  listed-ranked : (m : MateRead) (p : Place) → p ∈ readListed offset s ss m → p .rank < length (mapped c)
+  listed-ranked : (m : MateRead) (p : Place) → p ∈ mateListed offset s ss m → p .rank < length (mapped c)
   listed-ranked m p k = omega (arith, groups-∈ ss (m .read .bases) p (listed-∈ offset s ss m p k) .0 .ranked, as-many c valid)
 
   -- it agrees
-  one-agrees : (t : TwinRead) → readRefusal offset s (t .mate) ≡ 0 → readRefusal offset s (plainMate t) ≡ 0
-      → (part before part′ before′ : List ℕ) → part ≡ placed 0 (readEntries offset s ss ranked (t .mate)) (cleared before) → part′ ≡ placed 0 (readEntries offset s ss ranked (plainMate t)) (cleared before′)
-      → ReadAgrees c t (readRow offset s ss (byIndex q) (t .mate)) (readRow offset s ss plain (plainMate t)) part part′
+  one-agrees : (t : TwinRead) → mateRefusal offset s (t .mate) ≡ 0 → mateRefusal offset s (plainMate t) ≡ 0
+      → (part before part′ before′ : List ℕ) → part ≡ placed 0 (mateEntries offset s ss ranked (t .mate)) (cleared before) → part′ ≡ placed 0 (mateEntries offset s ss ranked (plainMate t)) (cleared before′)
+      → ReadAgrees c t (mateRow offset s ss (byIndex q) (t .mate)) (mateRow offset s ss plain (plainMate t)) part part′
   one-agrees t z z′ part before part′ before′ e e′ =
       let r = go (t .turns) z′ e′ in
       record { state = r .0; groups = r .1; placements = r .2; fewer = λ f. rw f (read-fewer offset s ss q some (t .mate)) }
     where
-      go : (b : Bool) → readRefusal offset s (cond b (turnedMate (t .mate)) (t .mate)) ≡ 0 → part′ ≡ placed 0 (readEntries offset s ss ranked (cond b (turnedMate (t .mate)) (t .mate))) (cleared before′)
-          → (readRow offset s ss (byIndex q) (t .mate) .state ≡ readRow offset s ss plain (cond b (turnedMate (t .mate)) (t .mate)) .state)
-          × (readRow offset s ss (byIndex q) (t .mate) .groups ≡ readRow offset s ss plain (cond b (turnedMate (t .mate)) (t .mate)) .groups)
-          × (placementsIn (readRow offset s ss plain (cond b (turnedMate (t .mate)) (t .mate)) .groups) part′ ≡ placementsIf b c (placementsIn (readRow offset s ss (byIndex q) (t .mate) .groups) part))
+      go : (b : Bool) → mateRefusal offset s (cond b (turnedMate (t .mate)) (t .mate)) ≡ 0 → part′ ≡ placed 0 (mateEntries offset s ss ranked (cond b (turnedMate (t .mate)) (t .mate))) (cleared before′)
+          → (mateRow offset s ss (byIndex q) (t .mate) .state ≡ mateRow offset s ss plain (cond b (turnedMate (t .mate)) (t .mate)) .state)
+          × (mateRow offset s ss (byIndex q) (t .mate) .groups ≡ mateRow offset s ss plain (cond b (turnedMate (t .mate)) (t .mate)) .groups)
+          × (placementsIn (mateRow offset s ss plain (cond b (turnedMate (t .mate)) (t .mate)) .groups) part′ ≡ placementsIf b c (placementsIn (mateRow offset s ss (byIndex q) (t .mate) .groups) part))
       go true y x = (
         state-turned offset s ss (t .mate) z y (byIndex q) plain,
-        row-listed offset s ss (byIndex q) (t .mate) ∙ sym (length-turned (readListed offset s ss (t .mate))) ∙ ap length (sym (read-turned offset s ss (t .mate) z y)) ∙ sym (row-listed offset s ss plain (turnedMate (t .mate))),
+        row-listed offset s ss (byIndex q) (t .mate) ∙ sym (length-turned (mateListed offset s ss (t .mate))) ∙ ap length (sym (read-turned offset s ss (t .mate) z y)) ∙ sym (row-listed offset s ss plain (turnedMate (t .mate))),
         part-shows plain (turnedMate (t .mate)) part′ before′ x
             ∙ ap₂ (λ n l. map (placementOf ranked n) l) (length-reverse-complement (t .mate .read .bases)) (read-turned offset s ss (t .mate) z y)
-            ∙ placements-turned c valid (length (t .mate .read .bases)) (readListed offset s ss (t .mate)) (listed-ranked (t .mate))
+            ∙ placements-turned c valid (length (t .mate .read .bases)) (mateListed offset s ss (t .mate)) (listed-ranked (t .mate))
             ∙ ap (turnedPlacements c) (sym (part-shows (byIndex q) (t .mate) part before e)),
       )
       go false y x = (
@@ -104,25 +104,25 @@ module _ (q offset : ℕ) (some : 1 ≤ q) (c : Catalogue) (valid : Valid c) (s 
 
   -- none of the reads is refused, and none is as the second audit gets it
   abbrev Unrefused : List MateRead → Type 0
-  Unrefused rs = firstOf (readRefusal offset s) rs ≡ 0
+  Unrefused rs = firstOf (mateRefusal offset s) rs ≡ 0
 
-  first-unrefused : (r : MateRead) (rs : List MateRead) → Unrefused (r ∷ rs) → readRefusal offset s r ≡ 0
-  first-unrefused r rs z = none-first (readRefusal offset s r) (firstOf (readRefusal offset s) rs) z
+  first-unrefused : (r : MateRead) (rs : List MateRead) → Unrefused (r ∷ rs) → mateRefusal offset s r ≡ 0
+  first-unrefused r rs z = none-first (mateRefusal offset s r) (firstOf (mateRefusal offset s) rs) z
 
   rest-unrefused : (r : MateRead) (rs : List MateRead) → Unrefused (r ∷ rs) → Unrefused rs
-  rest-unrefused r rs z = none-second (readRefusal offset s r) (firstOf (readRefusal offset s) rs) z
+  rest-unrefused r rs z = none-second (mateRefusal offset s r) (firstOf (mateRefusal offset s) rs) z
 
   pub all-booked : (ts : List TwinRead) → Unrefused (mates ts) → Unrefused (map plainMate ts) → (books : Books)
-      → bookedAll ranked (map (readBooked offset s ss (byIndex q)) (mates ts)) books ≡ bookedAll ranked (map (readBooked offset s ss plain) (map plainMate ts)) books
+      → bookedAll ranked (map (mateBooked offset s ss (byIndex q)) (mates ts)) books ≡ bookedAll ranked (map (mateBooked offset s ss plain) (map plainMate ts)) books
   all-booked [] z z′ books = refl
   all-booked (t ∷ ts) z z′ books =
-      all-booked ts (rest-unrefused (t .mate) (mates ts) z) (rest-unrefused (plainMate t) (map plainMate ts) z′) (bookedOne ranked (readBooked offset s ss (byIndex q) (t .mate)) books)
-      ∙ ap (bookedAll ranked (map (readBooked offset s ss plain) (map plainMate ts)))
+      all-booked ts (rest-unrefused (t .mate) (mates ts) z) (rest-unrefused (plainMate t) (map plainMate ts) z′) (bookedOne ranked (mateBooked offset s ss (byIndex q) (t .mate)) books)
+      ∙ ap (bookedAll ranked (map (mateBooked offset s ss plain) (map plainMate ts)))
       (one-booked t (first-unrefused (t .mate) (mates ts) z) (first-unrefused (plainMate t) (map plainMate ts) z′) books)
 
   pub all-agree : (ts : List TwinRead) → Unrefused (mates ts) → Unrefused (map plainMate ts) → (width width′ from from′ : ℕ) (before after before′ after′ : List ℕ)
-      → InParts cleared width from (map (readEntries offset s ss ranked) (mates ts)) before after → InParts cleared width′ from′ (map (readEntries offset s ss ranked) (map plainMate ts)) before′ after′
-      → ReadsAgree c width width′ from from′ ts (map (readRow offset s ss (byIndex q)) (mates ts)) (map (readRow offset s ss plain) (map plainMate ts)) after after′
+      → InParts cleared width from (map (mateEntries offset s ss ranked) (mates ts)) before after → InParts cleared width′ from′ (map (mateEntries offset s ss ranked) (map plainMate ts)) before′ after′
+      → ReadsAgree c width width′ from from′ ts (map (mateRow offset s ss (byIndex q)) (mates ts)) (map (mateRow offset s ss plain) (map plainMate ts)) after after′
   all-agree [] z z′ width width′ from from′ before after before′ after′ p p′ = tt
   all-agree (t ∷ ts) z z′ width width′ from from′ before after before′ after′ p p′ = (
     one-agrees t (first-unrefused (t .mate) (mates ts) z) (first-unrefused (plainMate t) (map plainMate ts) z′)

@@ -16,7 +16,7 @@ use Rattle.places.specs.Place.{Place, before, swapped}
 use Rattle.scan.specs.Entries.{entriesOf}
 use Rattle.indexed_mapper.specs.Laws.{turnedGroups}
 use Rattle.indexed_mapper.proofs.Matching.{rank-is}
-use Rattle.agreement.specs.Placements.{Placement, placementsIn, earlier, otherStrand, turnedPlacements}
+use Rattle.agreement.specs.Placements.{Placement, placementsIn, placedBefore, otherStrand, turnedPlacements}
 
 -- ---- sorting and maps
 
@@ -52,7 +52,7 @@ module _ (c : Catalogue) (valid : Valid c) (n : ℕ) where
   shown p = placementOf (suppliedPlaces c) n p
 
   -- placements are in order as the groups are
-  shown-order : (x y : Place) → x .rank < length (mapped c) → y .rank < length (mapped c) → earlier c (shown x) (shown y) ≡ before x y
+  shown-order : (x y : Place) → x .rank < length (mapped c) → y .rank < length (mapped c) → placedBefore c (shown x) (shown y) ≡ before x y
   shown-order x y h k = rw (rank-is c valid (x .rank) h, rank-is c valid (y .rank) k)
 
   shown-swapped : (gs : List Place) → map shown (map swapped gs) ≡ map otherStrand (map shown gs)
@@ -61,7 +61,7 @@ module _ (c : Catalogue) (valid : Valid c) (n : ℕ) where
 
   -- the placements of the groups turned round are the placements turned round
   pub placements-turned : (gs : List Place) → ((p : Place) → p ∈ gs → p .rank < length (mapped c)) → map shown (turnedGroups gs) ≡ turnedPlacements c (map shown gs)
-  placements-turned gs h = sort-map before (earlier c) shown (map swapped gs) (λ x y m k. shown-order x y (ranked x m) (ranked y k)) ∙ ap (sort (earlier c)) (shown-swapped gs)
+  placements-turned gs h = sort-map before (placedBefore c) shown (map swapped gs) (λ x y m k. shown-order x y (ranked x m) (ranked y k)) ∙ ap (sort (placedBefore c)) (shown-swapped gs)
     where
       ranked : (x : Place) → x ∈ map swapped gs → x .rank < length (mapped c)
       ranked x m = let r = map-∈ swapped x gs m in omega (arith, h (r .0) (r .1), ap (λ (p : Place). p .rank) (r .2))

@@ -35,7 +35,7 @@ use Rattle.audit_rules.specs.declared.sheet.Status.the-variants as statuses
 use Rattle.audit_rules.specs.declared.sheet.PlacementTotals.{PlacementTotals}
 use Rattle.audit_rules.specs.declared.sheet.Sheet.{Sheet}
 use Rattle.audit_rules.specs.Settings.{Held, booksOf, floorRight, rolesOf, statesShown}
-use Rattle.audit_rules.specs.Observing.{readBooked}
+use Rattle.audit_rules.specs.Observing.{mateBooked}
 use Rattle.audit_rules.specs.Opening.{IndexLent, indexRight, countersRight, started, openingRefusal, openingHeld, opened}
 use Rattle.audit_rules.specs.Sheet.{shown, totalsOf, runStatus, sheetOf, roleShown, targetShown, finishRefusal, finishAnswer}
 use Rattle.audit_rules.specs.Run.{Call, after, history}
@@ -46,10 +46,10 @@ use Rattle.agreement.proofs.Running.{after-books, after-countable}
 
 -- ---- roles, states, statuses
 
-few-roles : (mode : AuditInputMode) (role : ℕ) → role ∈ rolesOf mode → role < 3
-few-roles modes.SingleEnd role (inl e) = omega arith
-few-roles modes.PairedEnd role (inl e) = omega arith
-few-roles modes.PairedEnd role (inr (inl e)) = omega arith
+shown-roles : (mode : AuditInputMode) (role : ℕ) → role ∈ rolesOf mode → role < 3
+shown-roles modes.SingleEnd role (inl e) = omega arith
+shown-roles modes.PairedEnd role (inl e) = omega arith
+shown-roles modes.PairedEnd role (inr (inl e)) = omega arith
 
 -- a number that differs from each of a list does not stand in it
 not-in : (x : ℕ) (ys : List ℕ) → every (λ y. not (eqb x y)) ys ≡ true → x ∈ ys → ⊥
@@ -131,7 +131,7 @@ module _ (q offset : ℕ) (c : Catalogue) (lent : IndexLent) (s : Settings) (k :
 
   bookable : (b : Booked) → b ∈ booked → Bookable (length (suppliedPlaces c)) b
   bookable = history-all q offset c s (Bookable (length (suppliedPlaces c)))
-      (λ way r. subst (λ n. Bookable n (readBooked offset s (mappedSequences c) way r)) ranked-many (read-bookable offset s (mappedSequences c) way r)) start (ap (λ (h : Held). h .state .settings) start-is) xs
+      (λ way r. subst (λ n. Bookable n (mateBooked offset s (mappedSequences c) way r)) ranked-many (read-bookable offset s (mappedSequences c) way r)) start (ap (λ (h : Held). h .state .settings) start-is) xs
 
   -- what the state and the counters count
   pub run-counts : Counts (suppliedPlaces c) booked (booksOf end)
@@ -196,7 +196,7 @@ module _ (q offset : ℕ) (c : Catalogue) (lent : IndexLent) (s : Settings) (k :
   end-balanced : balanced (rolesOf (s .mode)) (statesShown (s .remap)) (booksOf end) ≡ true
   end-balanced =
       counts-balanced (suppliedPlaces c) booked (booksOf end) run-counts end-countable (rolesOf (s .mode)) (statesShown (s .remap))
-      (few-roles (s .mode)) (distinct-states (s .remap)) (few-states (s .remap)) shown-states end-reads
+      (shown-roles (s .mode)) (distinct-states (s .remap)) (few-states (s .remap)) shown-states end-reads
 
   -- `finish` makes the opening's checks, and no more can refuse it
   pub finish-opens : (lent′ : IndexLent) → finishRefusal q offset c lent′ end ≡ openingRefusal q offset c lent′ s (end .counters)
@@ -220,5 +220,5 @@ module _ (q offset : ℕ) (c : Catalogue) (lent : IndexLent) (s : Settings) (k :
 
       of-end : role ∈ rolesOf (end .state .settings .mode) → sum (map (λ (x : Triple). x .2) (roleShown (sheetOf end) role)) ≡ readsOf role booked
       of-end i =
-          counted (statesShown (end .state .settings .remap)) (few-states (end .state .settings .remap)) (few-roles (end .state .settings .mode) role i)
+          counted (statesShown (end .state .settings .remap)) (few-states (end .state .settings .remap)) (shown-roles (end .state .settings .mode) role i)
           ∙ states-sum role (statesShown (end .state .settings .remap)) (distinct-states (end .state .settings .remap)) booked (λ b i. rw settings-end (shown-states b i))

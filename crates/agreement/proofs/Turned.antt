@@ -27,7 +27,7 @@ use Rattle.indexed_mapper.specs.Laws.{turnedGroups}
 use Rattle.indexed_mapper.proofs.Laws.{row-groups, row-work, number-turned, listed-turned}
 use Rattle.ledger.specs.Booking.{targetsOf}
 use Rattle.audit_rules.specs.declared.settings.Settings.{Settings}
-use Rattle.audit_rules.specs.Observing.{MateRead, verdictRefusal, isEligible, readRefusal, isSearched, readListed, readRow}
+use Rattle.audit_rules.specs.Observing.{MateRead, verdictRefusal, isEligible, mateRefusal, isSearched, mateListed, mateRow}
 use Rattle.agreement.specs.Twins.{turnedMate}
 
 -- ---- the ranks of a turned read's groups
@@ -68,7 +68,7 @@ module _ (offset : ℕ) (s : Settings) where
   unrefused : (v : Verdict) → verdictRefusal v ≡ 0 → v ≡ refused 16 → ⊥
   unrefused v z e = omega (arith, z, ap verdictRefusal e)
 
-  pub searched-turned : (m : MateRead) → readRefusal offset s m ≡ 0 → readRefusal offset s (turnedMate m) ≡ 0 → isSearched offset s (turnedMate m) ≡ isSearched offset s m
+  pub searched-turned : (m : MateRead) → mateRefusal offset s m ≡ 0 → mateRefusal offset s (turnedMate m) ≡ 0 → isSearched offset s (turnedMate m) ≡ isSearched offset s m
   searched-turned m z z′ = go (s .remap) (none-second (unless (lengthRight (m .read .bases)) 7) _ z) (none-second (unless (lengthRight (turned (m .read) .bases)) 7) _ z′)
     where
       go : (b : Bool) → cond b (verdictRefusal (eligibility (s .floor) offset (m .read))) 0 ≡ 0 → cond b (verdictRefusal (eligibility (s .floor) offset (turned (m .read)))) 0 ≡ 0
@@ -83,21 +83,21 @@ module _ (offset : ℕ) (s : Settings) where
     abbrev stateBy : Bool → List Place → ℕ
     stateBy b gs = cond b (cond (ltb (s .limit) (length gs)) 2 (stateOf (length gs))) (cond (s .remap) 1 0)
 
-    row-state : (way : Way) (m : MateRead) → readRow offset s ss way m .state ≡ stateBy (isSearched offset s m) (groups ss (m .read .bases))
+    row-state : (way : Way) (m : MateRead) → mateRow offset s ss way m .state ≡ stateBy (isSearched offset s m) (groups ss (m .read .bases))
     row-state way m =
         by-test (isSearched offset s m)
         (λ t. rw t (by-test (ltb (s .limit) (length (groups ss (m .read .bases)))) (λ l. rw l) (λ l. rw l)))
         (λ t. rw t)
 
     -- the number of groups of a row is that of the listed ones
-    pub row-listed : (way : Way) (m : MateRead) → readRow offset s ss way m .groups ≡ length (readListed offset s ss m)
+    pub row-listed : (way : Way) (m : MateRead) → mateRow offset s ss way m .groups ≡ length (mateListed offset s ss m)
     row-listed way m =
         by-test (isSearched offset s m)
         (λ t. rw t (row-groups (s .limit) (groups ss (m .read .bases)) (workBy way ss (m .read .bases) (s .limit))))
         (λ t. rw (t, none-listed (s .limit)))
 
     -- a listed group is a group of the read
-    pub listed-∈ : (m : MateRead) (p : Place) → p ∈ readListed offset s ss m → p ∈ groups ss (m .read .bases)
+    pub listed-∈ : (m : MateRead) (p : Place) → p ∈ mateListed offset s ss m → p ∈ groups ss (m .read .bases)
     listed-∈ m p = go (isSearched offset s m) (groups ss (m .read .bases))
       where
         go : (b : Bool) (gs : List Place) → p ∈ listed (s .limit) (cond b gs []) → p ∈ gs
@@ -105,11 +105,11 @@ module _ (offset : ℕ) (s : Settings) where
         go false gs = rw (none-listed (s .limit)) (λ k. absurd k)
 
     -- one read in two ways
-    pub state-same : (way way′ : Way) (m : MateRead) → readRow offset s ss way m .state ≡ readRow offset s ss way′ m .state
+    pub state-same : (way way′ : Way) (m : MateRead) → mateRow offset s ss way m .state ≡ mateRow offset s ss way′ m .state
     state-same way way′ m = row-state way m ∙ sym (row-state way′ m)
 
     -- by the index it is compared no more often
-    pub read-fewer : (q : ℕ) → 1 ≤ q → (m : MateRead) → readRow offset s ss (byIndex q) m .work .comparisons ≤ readRow offset s ss plain m .work .comparisons
+    pub read-fewer : (q : ℕ) → 1 ≤ q → (m : MateRead) → mateRow offset s ss (byIndex q) m .work .comparisons ≤ mateRow offset s ss plain m .work .comparisons
     unfolding work scanWork
     read-fewer q some m =
         by-test (isSearched offset s m)
@@ -118,18 +118,18 @@ module _ (offset : ℕ) (s : Settings) where
 
     -- ---- turned
 
-    module _ (m : MateRead) (z : readRefusal offset s m ≡ 0) (z′ : readRefusal offset s (turnedMate m) ≡ 0) where
-      pub state-turned : (way way′ : Way) → readRow offset s ss way m .state ≡ readRow offset s ss way′ (turnedMate m) .state
+    module _ (m : MateRead) (z : mateRefusal offset s m ≡ 0) (z′ : mateRefusal offset s (turnedMate m) ≡ 0) where
+      pub state-turned : (way way′ : Way) → mateRow offset s ss way m .state ≡ mateRow offset s ss way′ (turnedMate m) .state
       state-turned way way′ = row-state way m ∙ rw (searched-turned m z z′, number-turned ss (m .read .bases)) refl ∙ sym (row-state way′ (turnedMate m))
 
       -- the listed groups are those of the read, on the other strands and put back in order
-      pub read-turned : readListed offset s ss (turnedMate m) ≡ turnedGroups (readListed offset s ss m)
+      pub read-turned : mateListed offset s ss (turnedMate m) ≡ turnedGroups (mateListed offset s ss m)
       read-turned =
           rw (searched-turned m z z′)
           (by-test (isSearched offset s m) (λ t. rw t (listed-turned ss (m .read .bases) (s .limit))) (λ t. rw (t, none-listed (s .limit))))
 
       -- on the same targets
-      pub targets-turned : (ranked : List ℕ) → targetsOf ranked (readListed offset s ss m) ≡ targetsOf ranked (readListed offset s ss (turnedMate m))
+      pub targets-turned : (ranked : List ℕ) → targetsOf ranked (mateListed offset s ss m) ≡ targetsOf ranked (mateListed offset s ss (turnedMate m))
       targets-turned ranked = rw (searched-turned m z z′) (go (isSearched offset s m))
         where
           go : (b : Bool) → targetsOf ranked (listed (s .limit) (cond b (groups ss (m .read .bases)) [])) ≡ targetsOf ranked (listed (s .limit) (cond b (groups ss (reverseComplement (m .read .bases))) []))

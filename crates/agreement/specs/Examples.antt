@@ -39,7 +39,7 @@ pub record Run : Type 0 where
   pub counts : List Triple
   pub targets : List Shown
   pub total : Shown
-  -- the words of these statuses
+  -- the words of the statuses: of the run, and of each target
   pub words : List String
 
 pub data Example : Type 0 where
@@ -61,7 +61,7 @@ pub record RunHolds (r : Run) : Type 0 where
   pub counted : countsShown (sheetOf (atEnd r)) ≡ r .counts
   pub by-target : targetsShown (sheetOf (atEnd r)) (atEnd r .counters) (r .catalogue) ≡ r .targets
   pub in-all : sheetOf (atEnd r) .run ≡ r .total
-  pub worded : map (λ (x : Shown). statusWord (x .status)) (r .targets) ≡ r .words
+  pub worded : map (λ (x : Shown). statusWord (x .status)) (r .total ∷ r .targets) ≡ r .words
 
 abbrev pub Holds : Example → Type 0
 Holds (mapper e) = board.Holds e
@@ -92,7 +92,7 @@ catchRun =
       counts = (0, 1, 0) ∷ (0, 2, 0) ∷ (0, 3, 0) ∷ (0, 4, 0) ∷ (0, 5, 1) ∷ [];
       targets = shown statuses.Complete (totalsOf 2 0 1) ∷ record { status = statuses.ClosedUnsupported; totals = totals.Unavailable } ∷ [];
       total = shown statuses.Complete (totalsOf 2 0 1);
-      words = "placement_enumeration_complete" ∷ "unavailable_closed_walk_audit_unsupported" ∷ [];
+      words = "placement_enumeration_complete" ∷ "placement_enumeration_complete" ∷ "unavailable_closed_walk_audit_unsupported" ∷ [];
     }
 
 abbrev pub examples : List Example

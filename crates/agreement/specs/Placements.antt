@@ -21,8 +21,8 @@ placementsIn (suc n) buffer =
     record { target = getD buffer 0 0; start = getD buffer 1 0; end = getD buffer 2 0; strand = getD buffer 3 0 } ∷ placementsIn n (drop 4 buffer)
 
 -- by rank, start, strand
-abbrev pub earlier : Catalogue → Placement → Placement → Bool
-earlier c x y = byRank c (x .target, x .start, x .strand) (y .target, y .start, y .strand)
+abbrev pub placedBefore : Catalogue → Placement → Placement → Bool
+placedBefore c x y = byRank c (x .target, x .start, x .strand) (y .target, y .start, y .strand)
 
 -- the same place on the other strand
 abbrev pub otherStrand : Placement → Placement
@@ -30,7 +30,7 @@ otherStrand x = record { target = x .target; start = x .start; end = x .end; str
 
 -- the placements of a read turned round: strands swapped, and the list put back in order
 abbrev pub turnedPlacements : Catalogue → List Placement → List Placement
-turnedPlacements c xs = sort (earlier c) (map otherStrand xs)
+turnedPlacements c xs = sort (placedBefore c) (map otherStrand xs)
 
 -- if it is turned
 abbrev pub placementsIf : Bool → Catalogue → List Placement → List Placement

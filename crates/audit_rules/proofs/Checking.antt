@@ -12,7 +12,7 @@ use Rattle.ledger.specs.Booking.{countable}
 use Rattle.audit_rules.specs.declared.settings.Settings.{Settings}
 use Rattle.audit_rules.specs.Settings.{Held}
 use Rattle.audit_rules.specs.Opening.{IndexLent, openingRefusal}
-use Rattle.audit_rules.specs.Observing.{readRefusal, readRoom}
+use Rattle.audit_rules.specs.Observing.{mateRefusal, mateRoom}
 use Rattle.audit_rules.specs.Fragment.{Fragment, inOrder, rolesRight, firstOf, shareOf, fragmentRefusal, fragmentBooks}
 
 -- every check has passed
@@ -20,8 +20,8 @@ pub record Checked (q offset : ℕ) (c : Catalogue) (lent : IndexLent) (h : Held
   pub opening : openingRefusal q offset c lent (h .state .settings) (h .counters) ≡ 0
   pub order : inOrder (h .state .last) (f .ordinal) ≡ true
   pub roles : rolesRight (h .state .settings .mode) (f .reads) ≡ true
-  pub reads : firstOf (readRefusal offset (h .state .settings)) (f .reads) ≡ 0
-  pub rooms : firstOf (readRoom offset (h .state .settings) (mappedSequences c) (shareOf (h .state .settings .mode) entries)) (f .reads) ≡ 0
+  pub reads : firstOf (mateRefusal offset (h .state .settings)) (f .reads) ≡ 0
+  pub rooms : firstOf (mateRoom offset (h .state .settings) (mappedSequences c) (shareOf (h .state .settings .mode) entries)) (f .reads) ≡ 0
   pub counts : countable (fragmentBooks q offset c lent h f) ≡ true
 
 pub fragment-checked : (q offset : ℕ) (c : Catalogue) (lent : IndexLent) (h : Held) (f : Fragment) (entries : ℕ) → fragmentRefusal q offset c lent h f entries ≡ 0 → Checked q offset c lent h f entries
@@ -31,13 +31,13 @@ fragment-checked q offset c lent h f entries e =
     let a = none-second (openingRefusal q offset c lent s (h .counters)) _ e in
     let b = none-second (unless (inOrder (h .state .last) (f .ordinal)) 12) _ a in
     let d = none-second (unless (rolesRight (s .mode) (f .reads)) 13) _ b in
-    let g = none-second (firstOf (readRefusal offset s) (f .reads)) _ d in
-    let i = none-second (firstOf (readRoom offset s (mappedSequences c) (shareOf (s .mode) entries)) (f .reads)) _ g in
+    let g = none-second (firstOf (mateRefusal offset s) (f .reads)) _ d in
+    let i = none-second (firstOf (mateRoom offset s (mappedSequences c) (shareOf (s .mode) entries)) (f .reads)) _ g in
     record {
       opening = none-first (openingRefusal q offset c lent s (h .counters)) _ e;
       order = passed (inOrder (h .state .last) (f .ordinal)) 12 (λ z. omega arith) (none-first (unless (inOrder (h .state .last) (f .ordinal)) 12) _ a);
       roles = passed (rolesRight (s .mode) (f .reads)) 13 (λ z. omega arith) (none-first (unless (rolesRight (s .mode) (f .reads)) 13) _ b);
-      reads = none-first (firstOf (readRefusal offset s) (f .reads)) _ d;
-      rooms = none-first (firstOf (readRoom offset s (mappedSequences c) (shareOf (s .mode) entries)) (f .reads)) _ g;
+      reads = none-first (firstOf (mateRefusal offset s) (f .reads)) _ d;
+      rooms = none-first (firstOf (mateRoom offset s (mappedSequences c) (shareOf (s .mode) entries)) (f .reads)) _ g;
       counts = passed (countable (fragmentBooks q offset c lent h f)) 17 (λ z. omega arith) i;
     }

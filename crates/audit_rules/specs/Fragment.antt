@@ -18,7 +18,7 @@ use Rattle.audit_rules.specs.declared.settings.LastOrdinal.{LastOrdinal}
 use Rattle.audit_rules.specs.declared.settings.LastOrdinal.the-variants as ordinals
 use Rattle.audit_rules.specs.Settings.{Held, booksOf, roleNumber, rolesOf}
 use Rattle.audit_rules.specs.Opening.{IndexLent, wayOf, openingRefusal}
-use Rattle.audit_rules.specs.Observing.{MateRead, readRefusal, readRoom, readRow, readBooked, readEntries}
+use Rattle.audit_rules.specs.Observing.{MateRead, mateRefusal, mateRoom, mateRow, mateBooked, mateEntries}
 
 pub record Fragment : Type 0 where
   pub ordinal : ℕ
@@ -68,7 +68,7 @@ module _ (q offset : ℕ) (c : Catalogue) (lent : IndexLent) (h : Held) (f : Fra
 
   -- what is booked of its reads
   abbrev pub fragmentBooked : List Booked
-  fragmentBooked = map (readBooked offset settings ss (wayOf q lent)) (f .reads)
+  fragmentBooked = map (mateBooked offset settings ss (wayOf q lent)) (f .reads)
 
   -- the books with its reads
   abbrev pub fragmentBooks : Books
@@ -80,13 +80,13 @@ module _ (q offset : ℕ) (c : Catalogue) (lent : IndexLent) (h : Held) (f : Fra
       openingRefusal q offset c lent settings (h .counters)
       orElse unless (inOrder (h .state .last) (f .ordinal)) 12
       orElse unless (rolesRight (settings .mode) (f .reads)) 13
-      orElse firstOf (readRefusal offset settings) (f .reads)
-      orElse firstOf (readRoom offset settings ss (shareOf (settings .mode) entries)) (f .reads)
+      orElse firstOf (mateRefusal offset settings) (f .reads)
+      orElse firstOf (mateRoom offset settings ss (shareOf (settings .mode) entries)) (f .reads)
       orElse unless (countable fragmentBooks) 17
 
   -- the answer: a row for each read
   abbrev pub fragmentAnswer : ℕ → Outcome (List Row)
-  fragmentAnswer entries = outcome (fragmentRefusal entries) (map (readRow offset settings ss (wayOf q lent)) (f .reads))
+  fragmentAnswer entries = outcome (fragmentRefusal entries) (map (mateRow offset settings ss (wayOf q lent)) (f .reads))
 
   -- an accepted fragment's ordinal is the last, and its reads are booked
   abbrev pub fragmentAccepted : Held
@@ -108,7 +108,7 @@ module _ (q offset : ℕ) (c : Catalogue) (lent : IndexLent) (h : Held) (f : Fra
   abbrev pub fragmentWritten : List ℕ → List ℕ
   fragmentWritten buffer =
       inParts (4 * shareOf (settings .mode) (entryCount buffer)) 0
-      (map (readEntries offset settings ss (suppliedPlaces c)) (f .reads)) (cleared buffer)
+      (map (mateEntries offset settings ss (suppliedPlaces c)) (f .reads)) (cleared buffer)
 
   abbrev pub fragmentEntries : List ℕ → List ℕ
   fragmentEntries buffer = entriesLeft (fragmentRefusal (entryCount buffer)) (fragmentWritten buffer) buffer

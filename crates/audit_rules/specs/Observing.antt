@@ -70,8 +70,8 @@ module _ (s : Settings) (ss : List (List ℕ)) where
 
 module _ (offset : ℕ) (s : Settings) where
   -- 7, and with remap on 14 to 16
-  abbrev pub readRefusal : MateRead → ℕ
-  readRefusal r = unless (lengthRight (r .read .bases)) 7 orElse cond (s .remap) (verdictRefusal (eligibility (s .floor) offset (r .read))) 0
+  abbrev pub mateRefusal : MateRead → ℕ
+  mateRefusal r = unless (lengthRight (r .read .bases)) 7 orElse cond (s .remap) (verdictRefusal (eligibility (s .floor) offset (r .read))) 0
 
   -- a read is searched where remap is on and it is eligible
   abbrev pub isSearched : MateRead → Bool
@@ -81,21 +81,21 @@ module _ (offset : ℕ) (s : Settings) where
   sightOf r = record { searched = isSearched r; bases = r .read .bases }
 
   module _ (ss : List (List ℕ)) where
-    abbrev pub readGroups : MateRead → List Place
-    readGroups r = sightGroups s ss (sightOf r)
+    abbrev pub mateGroups : MateRead → List Place
+    mateGroups r = sightGroups s ss (sightOf r)
 
-    abbrev pub readRoom : ℕ → MateRead → ℕ
-    readRoom entries r = sightRoom s ss entries (sightOf r)
+    abbrev pub mateRoom : ℕ → MateRead → ℕ
+    mateRoom entries r = sightRoom s ss entries (sightOf r)
 
-    abbrev pub readListed : MateRead → List Place
-    readListed r = sightListed s ss (sightOf r)
+    abbrev pub mateListed : MateRead → List Place
+    mateListed r = sightListed s ss (sightOf r)
 
-    abbrev pub readEntries : List ℕ → MateRead → List ℕ
-    readEntries ranked r = sightEntries s ss ranked (sightOf r)
+    abbrev pub mateEntries : List ℕ → MateRead → List ℕ
+    mateEntries ranked r = sightEntries s ss ranked (sightOf r)
 
-    abbrev pub readRow : Way → MateRead → Row
-    readRow way r = sightRow s ss way (sightOf r)
+    abbrev pub mateRow : Way → MateRead → Row
+    mateRow way r = sightRow s ss way (sightOf r)
 
     -- what is booked of it
-    abbrev pub readBooked : Way → MateRead → Booked
-    readBooked way r = record { role = roleNumber (r .role); state = readRow way r .state; groups = readListed r }
+    abbrev pub mateBooked : Way → MateRead → Booked
+    mateBooked way r = record { role = roleNumber (r .role); state = mateRow way r .state; groups = mateListed r }

@@ -32,12 +32,12 @@ totalNumbers totals.Unavailable = 0 ∷ 0 ∷ 0 ∷ []
 totalNumbers (totals.Available t) = t .placements ∷ t .singles ∷ t .multi ∷ []
 
 -- a target's row: its status, then its totals
-abbrev pub rowNumbers : Shown → List ℕ
-rowNumbers x = statusNumber (x .status) ∷ totalNumbers (x .totals)
+abbrev pub shownNumbers : Shown → List ℕ
+shownNumbers x = statusNumber (x .status) ∷ totalNumbers (x .totals)
 
-abbrev pub rowsOf : List Shown → List ℕ
-rowsOf [] = []
-rowsOf (x ∷ xs) = rowNumbers x ++ rowsOf xs
+abbrev pub shownRows : List Shown → List ℕ
+shownRows [] = []
+shownRows (x ∷ xs) = shownNumbers x ++ shownRows xs
 
 -- `audited` are the targets that were lent to `finish`, `c` those that are lent now
 module _ (audited c : Catalogue) (sheet : Sheet) (k : Counters) where
@@ -49,7 +49,7 @@ module _ (audited c : Catalogue) (sheet : Sheet) (k : Counters) where
 
   -- a refusal writes nothing
   abbrev pub rowsAfter : ℕ → List ℕ → List ℕ
-  rowsAfter zero rows = rowsOf (targetsShown sheet k c)
+  rowsAfter zero rows = shownRows (targetsShown sheet k c)
   rowsAfter (suc n) rows = rows
 
   abbrev pub applied : List ℕ → List ℕ

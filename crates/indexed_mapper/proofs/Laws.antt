@@ -58,6 +58,10 @@ module _ (limit : ℕ) (gs : List Place) (w : MappingWork) where
   few : (mappedRow limit gs w .state ≡ 2 → ⊥) → ltb limit (length gs) ≡ false
   few ne = by-test (ltb limit (length gs)) (λ t. absurd (ne (rw t))) (λ t. t)
 
+  -- another state goes by the number of groups
+  pub row-number : (mappedRow limit gs w .state ≡ 2 → ⊥) → mappedRow limit gs w .state ≡ stateOf (mappedRow limit gs w .groups)
+  row-number ne = rw (few ne)
+
   -- the number of groups is that of the listed ones, and the work is that of the search
   pub row-groups : mappedRow limit gs w .groups ≡ length (listed limit gs)
   row-groups = by-test (ltb limit (length gs)) (λ t. rw t) (λ t. rw t)
