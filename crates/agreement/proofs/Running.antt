@@ -11,7 +11,7 @@ use Rattle.ledger.proofs.Booking.{booked-append}
 use Rattle.audit_rules.specs.Settings.{Held, booksOf}
 use Rattle.audit_rules.specs.Fragment.{fragmentRefusal, fragmentBooked, heldAfter}
 use Rattle.audit_rules.proofs.Checking.{fragment-checked}
-use Rattle.audit_rules.proofs.Calls.{refused-holds}
+use Rattle.audit_rules.proofs.Booked.{refused-holds}
 use Rattle.agreement.specs.Meaning.{CanBeLeftOut}
 use Rattle.audit_rules.specs.Run.{Call, Answer, ifAccepted, answerTo, next, books, answers, after, history}
 

@@ -5,3 +5,4 @@ pub mod Fragment
 pub mod Sheet
 pub mod Unitigs
 pub mod Run
+pub mod Calls

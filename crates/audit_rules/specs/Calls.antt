@@ -1,0 +1,94 @@
+-- What the answers of the code stand for, and what the calls of an audit leave (REFERENCE.md, "Audit").
+use mathlib.Core.Path.{_≡_}
+use mathlib.Core.Bool.{Bool, true, false}
+use mathlib.Core.List.{List, [], _∷_}
+use Prim.Native.Nat.{ℕ, zero, suc}
+use lib.ListN.{replicate}
+use Rattle.promises.specs.Refusal.{Outcome, refused, accepted, outcome}
+use Rattle.bases.specs.Read.{readOf}
+use Rattle.catalogue.specs.Catalogue.{Catalogue}
+use Rattle.scan.specs.Entries.{entryCount}
+use Rattle.answers.specs.Answer.{Row, row, stateNumber}
+use Rattle.answers.specs.declared.answer.Mapping.{Mapping}
+use Rattle.ledger.specs.Booking.{Counters}
+use Rattle.audit_rules.specs.declared.calls.CallAnswer.{CallAnswer}
+use Rattle.audit_rules.specs.declared.calls.CallAnswer.the-variants as calls
+use Rattle.audit_rules.specs.declared.calls.Opening.{Opening}
+use Rattle.audit_rules.specs.declared.calls.FragmentAnswer.{FragmentAnswer}
+use Rattle.audit_rules.specs.declared.calls.FragmentAnswer.the-variants as fragments
+use Rattle.audit_rules.specs.declared.calls.FragmentAudit.{FragmentAudit}
+use Rattle.audit_rules.specs.declared.calls.Finish.{Finish}
+use Rattle.audit_rules.specs.declared.settings.AuditState.{AuditState}
+use Rattle.audit_rules.specs.declared.settings.MateRole.{MateRole}
+use Rattle.audit_rules.specs.declared.settings.Settings.{Settings}
+use Rattle.audit_rules.specs.declared.sheet.Sheet.{Sheet}
+use Rattle.audit_rules.specs.Settings.{Held, zeroState}
+use Rattle.audit_rules.specs.Opening.{IndexLent, columns, none, openingRefusal, openingHeld}
+use Rattle.audit_rules.specs.Observing.{MateRead}
+use Rattle.audit_rules.specs.Fragment.{Fragment, fragmentAnswer, fragmentHeld, fragmentEntries}
+use Rattle.audit_rules.specs.Sheet.{sheetOf, finishRefusal}
+
+-- ---- what is lent
+
+abbrev pub countersOf : List ℕ → List ℕ → List ℕ → Counters
+countersOf placements singles multi = record { placements = placements; singles = singles; multi = multi }
+
+abbrev pub heldOf : AuditState → List ℕ → List ℕ → List ℕ → Held
+heldOf state placements singles multi = record { state = state; counters = countersOf placements singles multi }
+
+-- three columns, which are an index where it is said so
+abbrev pub indexIf : Bool → List ℕ → List ℕ → List ℕ → IndexLent
+indexIf true ks rs os = columns ks rs os
+indexIf false ks rs os = none
+
+-- a read with its role, as it is lent
+abbrev pub mateOf : MateRole → List ℕ → Bool → List ℕ → MateRead
+mateOf role bases present qualities = record { role = role; read = readOf bases present qualities }
+
+-- n reads of which two are lent: the second stands for all further ones, which are refused 13 whatever they are
+abbrev pub lentReads : ℕ → MateRead → MateRead → List MateRead
+lentReads zero first second = []
+lentReads (suc n) first second = first ∷ replicate n second
+
+abbrev pub fragmentOf : ℕ → ℕ → MateRead → MateRead → Fragment
+fragmentOf ordinal count first second = record { ordinal = ordinal; reads = lentReads count first second }
+
+-- ---- what each answer stands for
+
+abbrev pub callOutcome : CallAnswer → Outcome (Unit {0})
+callOutcome (calls.Refused n) = refused n
+callOutcome calls.Accepted = accepted tt
+
+abbrev pub mappingRow : Mapping → Row
+mappingRow m = row (stateNumber (m .state)) (m .groups) (m .work)
+
+abbrev pub fragmentOutcome : FragmentAnswer → Outcome (List Row)
+fragmentOutcome (fragments.Refused n) = refused n
+fragmentOutcome (fragments.Single m) = accepted (mappingRow m ∷ [])
+fragmentOutcome (fragments.Paired m) = accepted (mappingRow (m .first) ∷ mappingRow (m .second) ∷ [])
+
+-- ---- what the calls promise
+
+-- an opening
+pub record Opens (q offset : ℕ) (c : Catalogue) (lent : IndexLent) (s : Settings) (k : Counters) (r : Opening) (k′ : Counters) : Type 0 where
+  pub answer : callOutcome (r .answer) ≡ outcome (openingRefusal q offset c lent s k) tt
+  pub held : record { state = r .state; counters = k′ } ≡ openingHeld q offset c lent s k
+
+-- a fragment call
+pub record Audits (q offset : ℕ) (c : Catalogue) (lent : IndexLent) (h : Held) (f : Fragment) (entries : List ℕ) (r : FragmentAudit) (k′ : Counters) (entries′ : List ℕ) : Type 0 where
+  pub answer : fragmentOutcome (r .answer) ≡ fragmentAnswer q offset c lent h f (entryCount entries)
+  pub held : record { state = r .state; counters = k′ } ≡ fragmentHeld q offset c lent h f (entryCount entries)
+  pub left : entries′ ≡ fragmentEntries q offset c lent h f entries
+
+-- the sheet of nothing
+abbrev pub zeroSheet : Sheet
+zeroSheet = sheetOf (record { state = zeroState; counters = countersOf [] [] [] })
+
+abbrev pub sheetAfter : ℕ → Held → Sheet
+sheetAfter zero h = sheetOf h
+sheetAfter (suc n) h = zeroSheet
+
+-- `finish`
+pub record Finishes (q offset : ℕ) (c : Catalogue) (lent : IndexLent) (h : Held) (r : Finish) : Type 0 where
+  pub answer : callOutcome (r .answer) ≡ outcome (finishRefusal q offset c lent h) tt
+  pub sheet : r .sheet ≡ sheetAfter (finishRefusal q offset c lent h) h
