@@ -74,11 +74,14 @@ rolesShown sheet (role ∷ roles) = roleShown sheet role ++ rolesShown sheet rol
 abbrev pub countsShown : Sheet → List Triple
 countsShown sheet = rolesShown sheet (rolesOf (sheet .mode))
 
--- what is shown of a target: a mapped one has the status of the run, a closed walk its own
+-- what is shown where a run has a status: a mapped target has that status, a closed walk its own
+abbrev pub rowShown : Status → Bool → PlacementTotals → Shown
+rowShown status mapped t = shown (cond mapped status statuses.ClosedUnsupported) t
+
+-- what is shown of a target
 abbrev pub targetShown : Sheet → Counters → Target → Shown
 targetShown sheet k t =
-    shown (cond (isMapped t) (sheet .run .status) statuses.ClosedUnsupported)
-    (totalsOf (getD (k .placements) (t .place) 0) (getD (k .singles) (t .place) 0) (getD (k .multi) (t .place) 0))
+    rowShown (sheet .run .status) (isMapped t) (totalsOf (getD (k .placements) (t .place) 0) (getD (k .singles) (t .place) 0) (getD (k .multi) (t .place) 0))
 
 -- and of all, as supplied
 abbrev pub targetsShown : Sheet → Counters → Catalogue → List Shown
