@@ -1,7 +1,7 @@
 // What the calls of an audit answer.
-use answers::answer::Mapping;
 use crate::settings::AuditState;
 use crate::sheet::Sheet;
+use answers::answer::Mapping;
 
 pub enum CallAnswer {
     Refused(u64),

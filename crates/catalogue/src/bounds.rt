@@ -73,7 +73,7 @@ fn least(a: usize, b: usize) -> usize
 }
 
 // Whether a catalogue is within its bounds: refusal 2 where it is not.
-pub(crate) fn in_bounds(
+pub fn in_bounds(
     identifiers: &[u8],
     identifier_ends: &[usize],
     bases: &[u8],

@@ -1,0 +1,3 @@
+pub mod Second
+pub mod Filled
+pub mod Fragment

@@ -1,0 +1,38 @@
+-- The reads of a fragment observed one after the other (REFERENCE.md, "Observing").
+use mathlib.Core.Path.{_≡_}
+use mathlib.Core.Bool.{Bool, cond}
+use mathlib.Core.List.{List, [], _∷_, map}
+use Prim.Native.Nat.{ℕ, _*_}
+use Rattle.lists.specs.Cut.{window}
+use Rattle.promises.specs.Refusal.{outcome}
+use Rattle.seeds.specs.Seeds.{placed}
+use Rattle.scan.specs.Entries.{entryCount, cleared}
+use Rattle.index_search.specs.Work.{Way}
+use Rattle.answers.specs.declared.answer.Mapping.{Mapping}
+use Rattle.search.specs.Answered.{searchEntries}
+use Rattle.audit_rules.specs.declared.calls.FragmentAnswer.{FragmentAnswer}
+use Rattle.audit_rules.specs.declared.settings.Settings.{Settings}
+use Rattle.audit_rules.specs.Observing.{Sight, sightRoom, sightEntries, sightRow}
+use Rattle.audit_rules.specs.Fragment.{firstOf, shareOf, inParts, entriesLeft}
+use Rattle.audit_rules.specs.Calls.{mappingRow, fragmentOutcome}
+use Rattle.checking.specs.Checks.{byMode}
+use Rattle.sighting.specs.Sights.{sight}
+
+-- the second read of a pair observed into the part behind that of the first, whose answer is known
+pub record SecondObserved (s : Settings) (ss : List (List ℕ)) (way : Way) (ranked : List ℕ) (read : List ℕ) (searched : Bool) (width : ℕ) (first : Mapping) (r : FragmentAnswer) (buffer buffer′ : List ℕ) : Type 0 where
+  pub answer :
+      fragmentOutcome r ≡ outcome (sightRoom s ss (entryCount (window buffer width width)) (sight searched read)) (mappingRow first ∷ sightRow s ss way (sight searched read) ∷ [])
+  pub entries : buffer′ ≡ placed width (cond searched (searchEntries ss ranked read (s .limit) (window buffer width width)) (window buffer width width)) buffer
+
+-- the reads of a fragment observed, each into its part of the entries: 10, or a row for each and its groups
+abbrev pub sights : Settings → Bool → List ℕ → Bool → List ℕ → List Sight
+sights s searched first searched′ second = byMode (s .mode) (sight searched first) (sight searched′ second)
+
+module _ (s : Settings) (ss : List (List ℕ)) (way : Way) (ranked : List ℕ) (reads : List Sight) where
+  abbrev pub roomsRefusal : ℕ → ℕ
+  roomsRefusal entries = firstOf (sightRoom s ss (shareOf (s .mode) entries)) reads
+
+  pub record ReadsObserved (r : FragmentAnswer) (buffer buffer′ : List ℕ) : Type 0 where
+    pub answer : fragmentOutcome r ≡ outcome (roomsRefusal (entryCount buffer)) (map (sightRow s ss way) reads)
+    pub entries :
+        buffer′ ≡ entriesLeft (roomsRefusal (entryCount buffer)) (inParts (4 * shareOf (s .mode) (entryCount buffer)) 0 (map (sightEntries s ss ranked) reads) (cleared buffer)) buffer

@@ -1,0 +1,3 @@
+pub mod Joined
+pub mod Counts
+pub mod Room

@@ -1,0 +1,128 @@
+-- The reads that were observed: what their rows and entries tell of their groups.
+-- Assumes nothing.
+use mathlib.Core.Path.{_≡_, refl, sym, ap, ap₂, _∙_}
+use mathlib.Core.Bool.{Bool, true, false, cond, _&&_}
+use mathlib.Core.List.{List, [], _∷_, map}
+use Prim.Native.Nat.{ℕ, zero, suc, _+_, _*_, _≤_, _<_}
+use native.Mathlib.Omega.{arith}
+use lib.ListN.{length, getD, drop, length-map, length-drop}
+use lib.Dec.{ltb, leb}
+use borrow.Author.Tests.{ltb-false, leb-true, lt-ltb}
+use Rattle.lists.specs.Member.{_∈_}
+use Rattle.lists.specs.Order.{Ascending}
+use Rattle.lists.specs.Cut.{window}
+use Rattle.lists.proofs.Cases.{by-test, and-true}
+use Rattle.lists.proofs.Member.{getD-∈}
+use Rattle.seeds.specs.Seeds.{placed}
+use Rattle.places.specs.Place.{Place, before, groups}
+use Rattle.places.proofs.Placing.{groups-∈, groups-ascending}
+use Rattle.scan.specs.Entries.{entriesOf}
+use Rattle.scan.proofs.Going.{length-entries}
+use Rattle.index_search.specs.Work.{Way, workBy}
+use Rattle.answers.specs.Answer.{Row, row, listed, stateOf, mappedRow, roomRefusal, stateNumber}
+use Rattle.answers.specs.Bounds.{limitRight, maxLimit}
+use Rattle.answers.specs.declared.answer.Mapping.{Mapping}
+use Rattle.ledger.specs.Booking.{Booked, targetsOf}
+use Rattle.ledger.specs.Counting.{Ranked}
+use Rattle.ledger.proofs.Targets.{targets-∈}
+use Rattle.raising.specs.Targets.{targetsIn, maxGroups, Targeted}
+use Rattle.raising.proofs.Choosing.{length-targets, targets-at}
+use Rattle.booking.specs.Books.{Posting, postingTargets, Tallied, Postable}
+use Rattle.search.proofs.Parts.{listed-room}
+use Rattle.audit_rules.specs.declared.settings.Settings.{Settings}
+use Rattle.audit_rules.specs.Observing.{Sight, noWork, sightGroups, sightRoom, sightListed, sightEntries, sightRow}
+use Rattle.audit_rules.specs.Calls.{mappingRow}
+use Rattle.tallies.specs.Answers.{tallyOf}
+use Rattle.tallies.proofs.Runs.{groups-grouped}
+use Rattle.tallies.proofs.Posted.{Posts, part-targets}
+use Rattle.ranked_reads.specs.Observe.{sightBooked}
+
+module _ (s : Settings) (ss : List (List ℕ)) (x : Sight) where
+  none-listed : listed (s .limit) [] ≡ []
+  none-listed = by-test (ltb (s .limit) 0) (λ t. rw t) (λ t. rw t)
+
+  -- as many groups are listed as its row says
+  sight-listed : (way : Way) → sightRow s ss way x .groups ≡ length (sightListed s ss x)
+  sight-listed way = go (x .searched)
+    where
+      gs : List Place
+      gs = groups ss (x .bases)
+
+      go : (b : Bool) → cond b (mappedRow (s .limit) gs (workBy way ss (x .bases) (s .limit))) (row (cond (s .remap) 1 0) 0 noWork) .groups ≡ length (listed (s .limit) (cond b gs []))
+      go true = by-test (ltb (s .limit) (length gs)) (λ t. rw t) (λ t. rw t)
+      go false = rw none-listed
+
+  -- no more than the limit
+  few-listed : length (sightListed s ss x) ≤ s .limit
+  few-listed = go (sightGroups s ss x)
+    where
+      go : (gs : List Place) → length (listed (s .limit) gs) ≤ s .limit
+      go gs = by-test (ltb (s .limit) (length gs)) (λ t. rw t (omega arith)) (λ t. rw t (omega (arith, ltb-false (s .limit) (length gs) t)))
+
+  listed-part : (p : Place) → p ∈ sightListed s ss x → p ∈ groups ss (x .bases)
+  listed-part p = go (x .searched) (groups ss (x .bases))
+    where
+      go : (b : Bool) (gs : List Place) → p ∈ listed (s .limit) (cond b gs []) → p ∈ gs
+      go true gs = by-test (ltb (s .limit) (length gs)) (λ l. rw l (λ k. absurd k)) (λ l. rw l (λ k. k))
+      go false gs = rw none-listed (λ k. absurd k)
+
+  -- they ascend
+  listed-ascend : Ascending before (sightListed s ss x)
+  listed-ascend = go (x .searched) (groups ss (x .bases)) (groups-ascending ss (x .bases))
+    where
+      go : (b : Bool) (gs : List Place) → Ascending before gs → Ascending before (listed (s .limit) (cond b gs []))
+      go true gs a = by-test (ltb (s .limit) (length gs)) (λ l. rw l tt) (λ l. rw l a)
+      go false gs a = rw none-listed tt
+
+  -- its entries fit its share
+  pub sight-short : (ranked : List ℕ) (share : ℕ) → sightRoom s ss share x ≡ 0 → length (sightEntries s ss ranked x) ≤ 4 * share
+  sight-short ranked share room =
+      omega (arith, length-entries ranked (length (x .bases)) (sightListed s ss x), listed-room share (s .limit) (sightGroups s ss x) room)
+
+-- ---- a read observed into its part of the entries
+
+limit-most : (limit : ℕ) → limitRight limit ≡ true → limit ≤ maxGroups
+limit-most limit t = leb-true limit maxLimit (and-true (leb 1 limit) (leb limit maxLimit) t .1)
+
+module _ (s : Settings) (ss : List (List ℕ)) (way : Way) (ranked : List ℕ) (x : Sight) (m : Mapping) (told : mappingRow m ≡ sightRow s ss way x)
+    (share from : ℕ) (room : sightRoom s ss share x ≡ 0) (entries zeros : List ℕ) (part : window entries from (4 * share) ≡ placed 0 (sightEntries s ss ranked x) zeros)
+    (n : ℕ) (lent : Ranked n ranked) (many : length ranked ≡ length ss) (limit : limitRight (s .limit) ≡ true) (role : ℕ) where
+  abbrev gs : List Place
+  gs = sightListed s ss x
+
+  groups-are : m .groups ≡ length gs
+  groups-are = ap (λ (r : Row). r .groups) told ∙ sight-listed s ss x way
+
+  fits : 4 * length gs ≤ 4 * share
+  fits = omega (arith, listed-room share (s .limit) (sightGroups s ss x) room)
+
+  targets-are : targetsIn (m .groups) (drop from entries) ≡ targetsOf ranked gs
+  targets-are = ap (λ k. targetsIn k (drop from entries)) groups-are ∙ part-targets ranked (length (x .bases)) (4 * share) from gs entries zeros part fits
+
+  ranked-inside : (p : Place) → p ∈ gs → p .rank < length ranked
+  ranked-inside p i = omega (arith, many, groups-∈ ss (x .bases) p (listed-part s ss x p i) .0 .ranked)
+
+  -- what is posted of it is what is booked of it
+  pub sight-posts : Posts ranked (record { tally = tallyOf role m; entries = drop from entries }) (sightBooked s ss way role x)
+  sight-posts =
+      record {
+        role = refl;
+        state = ap (λ (r : Row). r .state) told;
+        targets = targets-are;
+        grouped = groups-grouped ranked (lent .distinct) gs (listed-ascend s ss x) ranked-inside;
+      }
+
+  -- its targets have counters
+  pub sight-postable : role < 3 → stateNumber (m .state) < 6 → from + 4 * share ≤ length entries → Postable n (record { tally = tallyOf role m; entries = drop from entries })
+  sight-postable r t within =
+      record {
+        tallied = record { role = r; state = t; groups = omega (arith, groups-are, few-listed s ss x, limit-most (s .limit) limit) };
+        targeted = record { room = omega (arith, groups-are, fits, length-drop from entries); inside = inside };
+      }
+    where
+      inside : (i : ℕ) → i < m .groups → getD (drop from entries) (4 * i) 0 < n
+      inside i h =
+          let e = targets-at (m .groups) (drop from entries) i h in
+          let k : i < length (targetsOf ranked gs) = omega (arith, h, groups-are, length-map gs (λ (p : Place). getD ranked (p .rank) 0)) in
+          let z = lent .inside _ (targets-∈ ranked gs ranked-inside _ (getD-∈ 0 (targetsOf ranked gs) i k)) in
+          omega (arith, e, ap (λ l. getD l i 0) targets-are, z)
