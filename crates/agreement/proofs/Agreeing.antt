@@ -20,10 +20,10 @@ use Rattle.audit_rules.specs.Observing.{mateRow}
 use Rattle.audit_rules.specs.Fragment.{Fragment, shareOf, entriesLeft, fragmentRefusal, fragmentAccepted, heldAfter, fragmentWritten}
 use Rattle.audit_rules.specs.Sheet.{sheetOf, targetsShown, finishRefusal, finishAnswer}
 use Rattle.audit_rules.specs.Run.{Answer, answers, after}
+use Rattle.audit_rules.proofs.Opening.{opening-passed}
 use Rattle.audit_rules.proofs.Checking.{fragment-checked}
 use Rattle.audit_rules.proofs.Parts.{reads-in-parts}
 use Rattle.agreement.specs.Twins.{TwinCall, indexedCall, plainCall, ReadsAgree, CallsAgree, isRefused, refusals, RefusedTogether, RunsAgree}
-use Rattle.agreement.proofs.Catalogues.{opening-valid}
 use Rattle.agreement.proofs.Fragments.{all-booked, all-agree}
 
 module _ (q offset : ℕ) (some : 1 ≤ q) (c : Catalogue) (right : Valid c) where
@@ -134,4 +134,4 @@ pub runs-agree : (q offset : ℕ) → 1 ≤ q → (c : Catalogue) (s : Settings)
     → RefusedTogether q offset c ks′ rs′ os′ (openingHeld q offset c (columns ks rs os) s k) (openingHeld q offset c none s k′) xs
     → RunsAgree q offset c ks′ rs′ os′ (openingHeld q offset c (columns ks rs os) s k) (openingHeld q offset c none s k′) xs s
 runs-agree q offset some c s k k′ ks rs os z z′ xs ks′ rs′ os′ =
-    rw (z, z′) (from-one q offset some c (opening-valid q offset c none s k′ z′) (started c s) xs ks′ rs′ os′)
+    rw (z, z′) (from-one q offset some c (opening-passed q offset c none s k′ z′ .catalogue) (started c s) xs ks′ rs′ os′)

@@ -1,4 +1,3 @@
-pub mod Catalogues
 pub mod Turned
 pub mod Booking
 pub mod Running

@@ -1,7 +1,6 @@
 -- What an accepted fragment answers and books of each read.
 -- Assumes nothing.
 use mathlib.Core.Path.{_≡_, refl, sym, subst}
-use mathlib.Core.Bool.{true}
 use mathlib.Core.List.{List, [], _∷_, map}
 use Prim.Native.Nat.{ℕ, zero, suc, _+_, _*_}
 use Rattle.promises.specs.Refusal.{refused, accepted}
@@ -14,7 +13,6 @@ use Rattle.index_search.specs.declared.work.MappingWork.{MappingWork}
 use Rattle.scan.specs.Entries.{entryCount, cleared}
 use Rattle.index_search.specs.Work.{Way, workBy}
 use Rattle.answers.specs.Answer.{Row}
-use Rattle.indexed_mapper.specs.Match.{Lists}
 use Rattle.indexed_mapper.proofs.Laws.{row-lists, row-number}
 use Rattle.audit_rules.specs.declared.settings.Settings.{Settings}
 use Rattle.audit_rules.specs.Settings.{Held}
@@ -22,10 +20,10 @@ use Rattle.audit_rules.specs.Opening.{wayOf}
 use Rattle.audit_rules.specs.Observing.{MateRead, mateRow, mateEntries, mateBooked}
 use Rattle.audit_rules.specs.Fragment.{shareOf, entriesLeft, fragmentRefusal, fragmentBooked, fragmentWritten}
 use Rattle.audit_rules.specs.Run.{Call, ifAccepted, answerTo, next, books}
+use Rattle.audit_rules.proofs.Opening.{opening-passed}
 use Rattle.audit_rules.proofs.Checking.{Checked, fragment-checked}
 use Rattle.audit_rules.proofs.Parts.{InParts, reads-in-parts}
 use Rattle.agreement.specs.Meaning.{ReadMeans, ReadsMean, CallsMean}
-use Rattle.agreement.proofs.Catalogues.{opening-valid}
 use Rattle.agreement.proofs.Turned.{row-listed}
 
 -- a read whose listed groups stand at the front of its part
@@ -72,7 +70,7 @@ module _ (q offset : ℕ) (c : Catalogue) (h : Held) (x : Call) (rows : List Row
       → ReadsMean offset s c width from reads (map (mateRow offset s (mappedSequences c) (wayOf q (x .lent))) reads) (map (mateBooked offset s (mappedSequences c) (wayOf q (x .lent))) reads) (x .entries) (answerTo q offset c h x .entries)
   reads-mean [] from p = tt
   reads-mean (r ∷ reads) from p = (
-    read-means offset s c (opening-valid q offset c (x .lent) s (h .counters) (checked .opening)) (wayOf q (x .lent)) r _ _ (p .0),
+    read-means offset s c (opening-passed q offset c (x .lent) s (h .counters) (checked .opening) .catalogue) (wayOf q (x .lent)) r _ _ (p .0),
     reads-mean reads (from + width) (p .1),
   )
 

@@ -1,10 +1,10 @@
 -- What a run behind an accepted opening has counted, and what `finish` shows of it.
 -- Assumes nothing.
 use mathlib.Core.Path.{_≡_, refl, sym, ap, ap₂, subst, _∙_}
-use mathlib.Core.Bool.{Bool, true, false, not, _||_}
+use mathlib.Core.Bool.{Bool, true, false, not}
 use mathlib.Core.Logic.{inl, inr}
 use mathlib.Core.List.{List, [], _∷_, _++_, map}
-use Prim.Native.Nat.{ℕ, zero, suc, _+_, _≤_, _<_}
+use Prim.Native.Nat.{ℕ, zero, suc, _≤_, _<_}
 use native.Mathlib.Omega.{arith}
 use lib.ListN.{length, getD, replicate, length-map}
 use lib.Dec.{eqb, leb}
@@ -14,12 +14,10 @@ use Rattle.lists.specs.Member.{_∈_, Distinct}
 use Rattle.lists.proofs.Cases.{clash, and-true}
 use Rattle.lists.proofs.Every.{every-∈}
 use Rattle.lists.specs.Triple.{Triple}
-use Rattle.promises.specs.Refusal.{unless, _orElse_, accepted}
+use Rattle.promises.specs.Refusal.{_orElse_, accepted}
 use Rattle.promises.proofs.Refusing.{outcome-accepted}
-use Rattle.names.specs.Name.{distinctNames}
-use Rattle.catalogue.specs.Catalogue.{Catalogue, Target, Valid, targets, names, sequences, isMapped, mapped, suppliedPlaces, inBounds, properSequence, catalogueRefusal}
+use Rattle.catalogue.specs.Catalogue.{Catalogue, Target, Valid, targets, isMapped, mapped, suppliedPlaces}
 use Rattle.index.specs.Index.{mappedSequences}
-use Rattle.answers.specs.Bounds.{limitRight}
 use Rattle.indexed_mapper.specs.Match.{rankOf}
 use Rattle.ledger.specs.Booking.{Booked, Counters, bookedAll, emptyLedger, emptyCounters, maxCounter, countable}
 use Rattle.ledger.specs.Balance.{sum, countOf, balanced}
@@ -34,13 +32,14 @@ use Rattle.audit_rules.specs.declared.sheet.Status.{Status}
 use Rattle.audit_rules.specs.declared.sheet.Status.the-variants as statuses
 use Rattle.audit_rules.specs.declared.sheet.PlacementTotals.{PlacementTotals}
 use Rattle.audit_rules.specs.declared.sheet.Sheet.{Sheet}
-use Rattle.audit_rules.specs.Settings.{Held, booksOf, floorRight, rolesOf, statesShown}
+use Rattle.audit_rules.specs.Settings.{Held, booksOf, rolesOf, statesShown}
 use Rattle.audit_rules.specs.Observing.{mateBooked}
-use Rattle.audit_rules.specs.Opening.{IndexLent, indexRight, countersRight, started, openingRefusal, openingHeld, opened}
+use Rattle.audit_rules.specs.Opening.{IndexLent, started, openingRefusal, openingHeld, opened}
 use Rattle.audit_rules.specs.Sheet.{shown, totalsOf, runStatus, sheetOf, roleShown, targetShown, finishRefusal, finishAnswer}
 use Rattle.audit_rules.specs.Run.{Call, after, history}
+use Rattle.audit_rules.proofs.Opening.{opening-passed, opening-number}
+use Rattle.audit_rules.proofs.Catalogues.{places-ranked, target-ranked}
 use Rattle.agreement.specs.Meaning.{SheetMeans}
-use Rattle.agreement.proofs.Catalogues.{opening-valid, places-ranked, target-ranked}
 use Rattle.agreement.proofs.Booking.{shown-few, state-shown, read-bookable, settings-after, history-all}
 use Rattle.agreement.proofs.Running.{after-books, after-countable}
 
@@ -95,24 +94,6 @@ empty-countable n = zeros-then n (replicate n 0 ++ replicate n 0) (zeros-then n 
     zeros-then m [] t = zeros m
     zeros-then m (x ∷ ns) t = let u = and-true (small x) (every small ns) t in rw (u .0) (zeros-then m ns (u .1))
 
--- ---- the opening's numbers
-
-opening-not-18 : (q offset : ℕ) (c : Catalogue) (lent : IndexLent) (s : Settings) (k : Counters) → openingRefusal q offset c lent s k ≡ 18 → ⊥
-unfolding openingRefusal catalogueRefusal
-opening-not-18 q offset c lent s k =
-    go (floorRight offset (s .floor)) (limitRight (s .limit)) (countersRight c k) (inBounds c) (every properSequence (sequences c)) (distinctNames (names c)) (not (s .remap) || indexRight q c lent)
-  where
-    go : (floor limit counters bounds proper distinct index : Bool)
-        → (unless floor 11 orElse unless limit 9 orElse unless counters 2 orElse (unless bounds 2 orElse unless proper 3 orElse unless distinct 4) orElse unless index 6) ≡ 18 → ⊥
-    go false l k b p d i e = omega arith
-    go true false k b p d i e = omega arith
-    go true true false b p d i e = omega arith
-    go true true true false p d i e = omega arith
-    go true true true true false d i e = omega arith
-    go true true true true true false i e = omega arith
-    go true true true true true true false e = omega arith
-    go true true true true true true true e = omega arith
-
 module _ (q offset : ℕ) (c : Catalogue) (lent : IndexLent) (s : Settings) (k : Counters) (begun : openingRefusal q offset c lent s k ≡ 0) (xs : List Call) where
   abbrev start : Held
   start = openingHeld q offset c lent s k
@@ -137,7 +118,7 @@ module _ (q offset : ℕ) (c : Catalogue) (lent : IndexLent) (s : Settings) (k :
   pub run-counts : Counts (suppliedPlaces c) booked (booksOf end)
   run-counts =
       subst (Counts (suppliedPlaces c) booked) (sym (after-books q offset c start xs ∙ ap (λ h. bookedAll (suppliedPlaces c) booked (booksOf h)) start-is))
-      (booked-counts (length (targets c)) (suppliedPlaces c) (places-ranked c (opening-valid q offset c lent s k begun)) booked bookable)
+      (booked-counts (length (targets c)) (suppliedPlaces c) (places-ranked c (opening-passed q offset c lent s k begun .catalogue)) booked bookable)
 
   settings-end : end .state .settings ≡ s
   settings-end = settings-after q offset c start xs ∙ ap (λ (h : Held). h .state .settings) start-is
@@ -151,7 +132,7 @@ module _ (q offset : ℕ) (c : Catalogue) (lent : IndexLent) (s : Settings) (k :
       n = run-counts
 
       right : Valid c
-      right = opening-valid q offset c lent s k begun
+      right = opening-passed q offset c lent s k begun .catalogue
 
       status : Status
       status = runStatus (s .remap) (anyIndeterminate booked)
@@ -205,7 +186,7 @@ module _ (q offset : ℕ) (c : Catalogue) (lent : IndexLent) (s : Settings) (k :
 
   -- so it is never refused 18
   pub never-apart : (lent′ : IndexLent) → finishRefusal q offset c lent′ end ≡ 18 → ⊥
-  never-apart lent′ e = opening-not-18 q offset c lent′ s (end .counters) (sym (finish-opens lent′) ∙ e)
+  never-apart lent′ e = omega (arith, opening-number q offset c lent′ s (end .counters) .0, sym (finish-opens lent′) ∙ e)
 
   -- an accepted one shows as many reads of a role, over its states, as were booked
   pub role-shown : (lent′ : IndexLent) (sheet : Sheet) → finishAnswer q offset c lent′ end ≡ accepted sheet → (role : ℕ) → role ∈ rolesOf (sheet .mode)

@@ -4,13 +4,14 @@ use mathlib.Core.Bool.{Bool, true, false}
 use mathlib.Core.List.{List, [], _∷_}
 use Prim.Native.Nat.{ℕ, zero, suc}
 use lib.ListN.{replicate}
+use Rattle.promises.specs.Slice.{Slice, old}
 use Rattle.promises.specs.Refusal.{Outcome, refused, accepted, outcome}
 use Rattle.bases.specs.Read.{readOf}
 use Rattle.catalogue.specs.Catalogue.{Catalogue}
 use Rattle.scan.specs.Entries.{entryCount}
 use Rattle.answers.specs.Answer.{Row, row, stateNumber}
 use Rattle.answers.specs.declared.answer.Mapping.{Mapping}
-use Rattle.ledger.specs.Booking.{Counters}
+use Rattle.ledger.specs.Booking.{Counters, countersOf, lentCounters}
 use Rattle.audit_rules.specs.declared.calls.CallAnswer.{CallAnswer}
 use Rattle.audit_rules.specs.declared.calls.CallAnswer.the-variants as calls
 use Rattle.audit_rules.specs.declared.calls.Opening.{Opening}
@@ -29,9 +30,6 @@ use Rattle.audit_rules.specs.Fragment.{Fragment, fragmentAnswer, fragmen
 use Rattle.audit_rules.specs.Sheet.{sheetOf, finishRefusal}
 
 -- ---- what is lent
-
-abbrev pub countersOf : List ℕ → List ℕ → List ℕ → Counters
-countersOf placements singles multi = record { placements = placements; singles = singles; multi = multi }
 
 abbrev pub heldOf : AuditState → List ℕ → List ℕ → List ℕ → Held
 heldOf state placements singles multi = record { state = state; counters = countersOf placements singles multi }
@@ -52,6 +50,17 @@ lentReads (suc n) first second = first ∷ replicate n second
 
 abbrev pub fragmentOf : ℕ → ℕ → MateRead → MateRead → Fragment
 fragmentOf ordinal count first second = record { ordinal = ordinal; reads = lentReads count first second }
+
+-- ---- the same, as the slices of a call hold it when the call is made
+
+abbrev pub lentHeld : AuditState → Slice → Slice → Slice → Held
+lentHeld state placements singles multi = record { state = state; counters = lentCounters placements singles multi }
+
+abbrev pub lentIndex : Bool → Slice → Slice → Slice → IndexLent
+lentIndex indexed ks rs os = indexIf indexed (old ks) (old rs) (old os)
+
+abbrev pub lentMate : MateRole → Slice → Bool → Slice → MateRead
+lentMate role bases present qualities = mateOf role (old bases) present (old qualities)
 
 -- ---- what each answer stands for
 

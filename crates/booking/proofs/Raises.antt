@@ -7,12 +7,12 @@ use Prim.Native.Nat.{ℕ, _≤_}
 use native.Mathlib.Omega.{arith}
 use lib.ListN.{length}
 use Rattle.lists.proofs.Cases.{and-true}
-use Rattle.ledger.specs.Booking.{Counters, raisedAt, singleTargets}
+use Rattle.ledger.specs.Booking.{Counters, raisedAt, singleTargets, countersOf}
 use Rattle.ledger.proofs.Raising.{length-raisedAt}
 use Rattle.raising.specs.Targets.{targetsIn, chosen, small, Raisable, Fittable}
 use Rattle.raising.proofs.Adding.{small-before}
 use Rattle.posting.specs.Posting.{severalRuns}
-use Rattle.booking.specs.Books.{countersRaised, countersOf, singleCount, severalCount, countersSmall, CountersFor, CountersRaisable, CountersFittable}
+use Rattle.booking.specs.Books.{countersRaised, singleCount, severalCount, countersSmall, CountersFor, CountersRaisable, CountersFittable}
 use Rattle.booking.proofs.Groups.{single-fewer, several-fewer, singles-are, several-are, fewer-targeted, fewer-small}
 
 -- ---- of 64 bits

@@ -5,7 +5,7 @@ use mathlib.Core.List.{List, [], _∷_}
 use Prim.Native.Nat.{ℕ, _<_, _≤_}
 use lib.ListN.{length, drop}
 use lib.Dec.{eqb, ltb}
-use Rattle.ledger.specs.Booking.{Counters, Books, raisedAt, singleTargets}
+use Rattle.ledger.specs.Booking.{Counters, Books, raisedAt, singleTargets, countersOf}
 use Rattle.ledger.specs.declared.Ledger.{Ledger}
 use Rattle.raising.specs.Targets.{targetsIn, small, maxGroups, Targeted}
 use Rattle.posting.specs.declared.Posted.{Posted}
@@ -18,9 +18,6 @@ use Rattle.booking.specs.declared.ReadTally.{ReadTally}
 abbrev pub countersRaised : List ℕ → Counters → Counters
 countersRaised ts k =
     record { placements = raisedAt ts (k .placements); singles = raisedAt (singleTargets ts) (k .singles); multi = raisedAt (severalRuns ts) (k .multi) }
-
-abbrev pub countersOf : List ℕ → List ℕ → List ℕ → Counters
-countersOf placements singles multi = record { placements = placements; singles = singles; multi = multi }
 
 abbrev pub booksOf : Ledger → List ℕ → List ℕ → List ℕ → Books
 booksOf l placements singles multi = record { ledger = l; counters = countersOf placements singles multi }

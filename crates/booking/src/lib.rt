@@ -1,23 +1,10 @@
 // Reads booked: the targets that their groups name, counters raised, and a ledger with a read more.
 ghost use mathlib.Core.Path.{_≡_};
 ghost use mathlib.Core.Bool.{true};
-ghost use Rattle.promises.specs.Slice.{old, new};
+ghost use Rattle.promises.specs.Slice.{old};
+ghost use Rattle.ledger.specs.Booking.{countersOf, lentCounters, leftCounters};
 ghost use Rattle.raising.specs.Targets.{targetsIn};
-ghost use Rattle.booking.specs.Books.{
-  singleCount,
-  severalCount,
-  countersOf,
-  booksOf,
-  countersRaised,
-  countersPosted,
-  postings,
-  countersSmall,
-  CountersRaisable,
-  CountersFittable,
-  FragmentPostable,
-  FragmentRaisable,
-  BooksPosted,
-};
+ghost use Rattle.booking.specs.Books.{singleCount, severalCount, booksOf, countersRaised, countersPosted, postings, countersSmall, CountersRaisable, CountersFittable, FragmentPostable, FragmentRaisable, BooksPosted};
 use ledger::Ledger;
 use posting::Posted;
 use posting::added_by;
@@ -61,7 +48,7 @@ fn raise_counters(
     n: usize,
 )
     requires { ⌜ CountersRaisable n (now entries) (countersOf (now placements) (now singles) (now multi)) ⌝ }
-    ensures { λ _. ⌜ countersOf (new placements) (new singles) (new multi) ≡ countersRaised (targetsIn n (old entries)) (countersOf (old placements) (old singles) (old multi)) ⌝ }
+    ensures { λ _. ⌜ leftCounters placements singles multi ≡ countersRaised (targetsIn n (old entries)) (lentCounters placements singles multi) ⌝ }
 {
     raise_targets(placements, entries, n, true);
     raise_targets(singles, entries, single_groups(n), true);
@@ -79,7 +66,7 @@ fn counters_fit(
     m: usize,
 ) -> bool
     requires { ⌜ CountersFittable n (now first) m (now second) (countersOf (now placements) (now singles) (now multi)) ⌝ }
-    ensures { λ r. ⌜ r ≡ countersSmall (countersRaised (targetsIn m (old second)) (countersRaised (targetsIn n (old first)) (countersOf (old placements) (old singles) (old multi)))) ⌝ }
+    ensures { λ r. ⌜ r ≡ countersSmall (countersRaised (targetsIn m (old second)) (countersRaised (targetsIn n (old first)) (lentCounters placements singles multi))) ⌝ }
 {
     if !targets_fit(placements, first, n, second, m, true) {
         return false;
@@ -175,7 +162,7 @@ pub fn raise_fragment(
     width: usize,
 )
     requires { ⌜ FragmentRaisable first second two width (now entries) (countersOf (now placements) (now singles) (now multi)) ⌝ }
-    ensures { λ _. ⌜ countersOf (new placements) (new singles) (new multi) ≡ countersPosted (postings first second two width (old entries)) (countersOf (old placements) (old singles) (old multi)) ⌝ }
+    ensures { λ _. ⌜ leftCounters placements singles multi ≡ countersPosted (postings first second two width (old entries)) (lentCounters placements singles multi) ⌝ }
 {
     raise_counters(placements, singles, multi, entries, first.groups);
     if two {

@@ -1,27 +1,25 @@
 -- What an opening leaves: its answer, the state and the counters.
 -- Assumes nothing.
 use mathlib.Core.Path.{_≡_, refl, sym, ap, ap₂, _∙_}
-use mathlib.Core.Bool.{true}
 use mathlib.Core.List.{List, _++_, append-nil}
 use Prim.Native.Nat.{ℕ, zero, suc, _+_, _≤_}
 use native.Mathlib.Omega.{arith}
 use lib.ListN.{length, drop, replicate, length-replicate}
 use lib.Seq.{drop-length}
-use Rattle.promises.specs.Refusal.{unless}
-use Rattle.promises.proofs.Refusing.{none-first, none-second, passed, outcome-refused, outcome-accepted, outcome-number}
+use Rattle.promises.proofs.Refusing.{outcome-refused, outcome-accepted, outcome-number}
 use Rattle.catalogue.specs.Catalogue.{Catalogue, targets, mapped}
 use Rattle.catalogue.specs.Ranking.{rankingOutcome}
 use Rattle.catalogue.specs.declared.ranks.Ranking.{Ranking}
 use Rattle.catalogue.specs.declared.ranks.Ranking.the-variants.{Refused, Ranked}
 use Rattle.scan.proofs.Filling.{Clearing}
-use Rattle.answers.specs.Bounds.{limitRight}
-use Rattle.ledger.specs.Booking.{Counters, emptyCounters}
+use Rattle.ledger.specs.Booking.{Counters, emptyCounters, countersOf}
 use Rattle.audit_rules.specs.declared.settings.Settings.{Settings}
 use Rattle.audit_rules.specs.declared.settings.AuditState.{AuditState}
 use Rattle.audit_rules.specs.declared.calls.CallAnswer.the-variants as calls
-use Rattle.audit_rules.specs.Settings.{Held, floorRight, freshState, zeroState}
-use Rattle.audit_rules.specs.Opening.{IndexLent, countersRight, openingRefusal, opened}
-use Rattle.audit_rules.specs.Calls.{countersOf, Opens}
+use Rattle.audit_rules.specs.Settings.{Held, freshState, zeroState}
+use Rattle.audit_rules.specs.Opening.{IndexLent, openingRefusal, opened}
+use Rattle.audit_rules.specs.Calls.{Opens}
+use Rattle.audit_rules.proofs.Opening.{opening-passed}
 use Rattle.opening.specs.Opens.{OpeningRanked}
 use Rattle.opening.proofs.Opening.{counted}
 
@@ -31,14 +29,6 @@ abbrev held : AuditState → Counters → Held
 held state k = record { state = state; counters = k }
 
 module _ (q offset : ℕ) (c : Catalogue) (lent : IndexLent) (s : Settings) (k : Counters) where
-  -- an opening that is not refused has a counter of each kind for each target
-  counters-counted : openingRefusal q offset c lent s k ≡ 0 → countersRight c k ≡ true
-  unfolding openingRefusal
-  counters-counted e =
-      let behind-floor = none-second (unless (floorRight offset (s .floor)) 11) _ e in
-      let behind-limit = none-second (unless (limitRight (s .limit)) 9) _ behind-floor in
-      passed (countersRight c k) 2 (λ z. omega arith) (none-first (unless (countersRight c k) 2) _ behind-limit)
-
   module _ (r : Ranking) (buffer : List ℕ) (h : OpeningRanked q offset c lent s k r buffer) where
     pub opening-refused : (n : ℕ) → r ≡ Refused n → (state : AuditState) → state ≡ zeroState → (k′ : Counters) → k′ ≡ k → Opens q offset c lent s k (record { answer = calls.Refused n; state = state }) k′
     opening-refused n told state e k′ f =
@@ -57,7 +47,7 @@ module _ (q offset : ℕ) (c : Catalogue) (lent : IndexLent) (s : Settings) (k :
         → Opens q offset c lent s k (record { answer = calls.Accepted; state = state }) (countersOf ps ss ms)
     opening-done j told state e ps ss ms zp zs zm =
         let w = outcome-accepted (openingRefusal q offset c lent s k) (length (mapped c)) j (sym (h .answer) ∙ ap rankingOutcome told) in
-        let n = counted (length (targets c)) k (counters-counted (w .0)) in
+        let n = counted (length (targets c)) k (opening-passed q offset c lent s k (w .0) .counters) in
         record {
           answer = rw (w .0);
           held =

@@ -6,8 +6,9 @@ ghost use Rattle.promises.specs.Slice.{old, new};
 ghost use Rattle.bases.specs.Eligibility.{lastQuality};
 ghost use Rattle.catalogue.specs.Catalogue.{lentCatalogue};
 ghost use Rattle.seeds.specs.Key.{SeedLength};
+ghost use Rattle.ledger.specs.Booking.{lentCounters, leftCounters};
 ghost use Rattle.audit_rules.specs.Settings.{freshState, zeroState};
-ghost use Rattle.audit_rules.specs.Calls.{countersOf, indexIf, Opens};
+ghost use Rattle.audit_rules.specs.Calls.{lentIndex, Opens};
 use audit_rules::calls::CallAnswer;
 use audit_rules::calls::Opening;
 use audit_rules::settings::AuditInputMode;
@@ -79,7 +80,8 @@ pub fn open_audit(
     settings: Settings,
 ) -> Opening
     requires { ⌜ SeedLength q × (offset ≤ lastQuality) ⌝ }
-    ensures { λ r. ⌜ Opens q offset (lentCatalogue identifiers «identifier_ends» bases «base_ends» marks) (indexIf indexed (old keys) (old ranks) (old positions)) settings (countersOf (old placements) (old singles) (old multi)) r (countersOf (new placements) (new singles) (new multi)) ⌝ }
+    ensures { λ r. ⌜ Opens q offset (lentCatalogue identifiers «identifier_ends» bases «base_ends» marks) (lentIndex indexed keys ranks positions)
+        settings (lentCounters placements singles multi) r (leftCounters placements singles multi) ⌝ }
 {
     let mut ranked = [0usize; 4096];
     let ranking = check_opening(

@@ -5,6 +5,7 @@ use Prim.Native.Nat.{ℕ, suc, _+_, _*_}
 use lib.ListN.{length, getD, set, replicate}
 use lib.Dec.{eqb, leb, ltb}
 use Rattle.lists.specs.Filter.{consIf, every}
+use Rattle.promises.specs.Slice.{Slice, old, new}
 use Rattle.places.specs.Place.{Place}
 use Rattle.ledger.specs.declared.Ledger.{Ledger}
 
@@ -19,6 +20,17 @@ pub record Counters : Type 0 where
   pub placements : List ℕ
   pub singles : List ℕ
   pub multi : List ℕ
+
+abbrev pub countersOf : List ℕ → List ℕ → List ℕ → Counters
+countersOf placements singles multi = record { placements = placements; singles = singles; multi = multi }
+
+-- those that the slices of a call hold when it is made
+abbrev pub lentCounters : Slice → Slice → Slice → Counters
+lentCounters placements singles multi = countersOf (old placements) (old singles) (old multi)
+
+-- and when it returns
+abbrev pub leftCounters : Slice → Slice → Slice → Counters
+leftCounters placements singles multi = countersOf (new placements) (new singles) (new multi)
 
 -- a ledger and the counters of its targets
 pub record Books : Type 0 where

@@ -6,7 +6,8 @@ ghost use Rattle.bases.specs.Eligibility.{lastQuality};
 ghost use Rattle.catalogue.specs.Catalogue.{lentCatalogue};
 ghost use Rattle.seeds.specs.Key.{SeedLength};
 ghost use Rattle.index.specs.Index.{Lent, lentSequences};
-ghost use Rattle.audit_rules.specs.Calls.{countersOf, indexIf};
+ghost use Rattle.ledger.specs.Booking.{lentCounters};
+ghost use Rattle.audit_rules.specs.Calls.{lentIndex};
 ghost use Rattle.opening.specs.Opens.{settingsRefusal, countersFor, indexFits, Checkable, OpeningRanked};
 use answers::bounds::limit_right;
 use audit_rules::settings::Settings;
@@ -32,7 +33,7 @@ fn settings_refusal(settings: Settings, offset: u8) -> u64
 
 // Whether there are as many counters of each kind as targets.
 fn counters_right(placements: &[u64], singles: &[u64], multi: &[u64], targets: usize) -> bool
-    ensures { λ r. ⌜ r ≡ countersFor targets (countersOf (old placements) (old singles) (old multi)) ⌝ }
+    ensures { λ r. ⌜ r ≡ countersFor targets (lentCounters placements singles multi) ⌝ }
 {
     if placements.len() != targets {
         return false;
@@ -83,7 +84,7 @@ pub fn check_opening(
     settings: Settings,
 ) -> Ranking
     requires { ⌜ Checkable q offset (now ranked) ⌝ }
-    ensures { λ r. ⌜ OpeningRanked q offset (lentCatalogue identifiers «identifier_ends» bases «base_ends» marks) (indexIf indexed (old keys) (old ranks) (old positions)) settings (countersOf (old placements) (old singles) (old multi)) r (new ranked) ⌝ }
+    ensures { λ r. ⌜ OpeningRanked q offset (lentCatalogue identifiers «identifier_ends» bases «base_ends» marks) (lentIndex indexed keys ranks positions) settings (lentCounters placements singles multi) r (new ranked) ⌝ }
 {
     let refusal = settings_refusal(settings, offset);
     if refusal != 0 {

@@ -1,8 +1,8 @@
 // The reads of a checked fragment observed in ranked sequences, and refusal 17. State and counters are only read.
 ghost use Rattle.promises.specs.Slice.{old, new};
 ghost use Rattle.index.specs.Index.{lentSequences};
+ghost use Rattle.ledger.specs.Booking.{countersOf, lentCounters};
 ghost use Rattle.audit_rules.specs.Settings.{roleNumber};
-ghost use Rattle.audit_rules.specs.Calls.{countersOf};
 ghost use Rattle.sighting.specs.Sights.{wayIf, sight};
 ghost use Rattle.ranked_reads.specs.Observe.{RankedLent, RankedObserved};
 use audit_rules::calls::FragmentAnswer;
@@ -37,8 +37,11 @@ pub fn observe_ranked(
     settings: Settings,
     ledger: Ledger,
 ) -> FragmentAnswer
-    requires { ⌜ RankedLent indexed q (now bases) (now ends) (now ranked) (now keys) (now ranks) (now positions) (now first) (now second) searched settings (countersOf (now placements) (now singles) (now multi)) ⌝ }
-    ensures { λ r. ⌜ RankedObserved settings (lentSequences bases ends ranked) (wayIf indexed q) (old ranked) (roleNumber «first_role») (roleNumber «second_role») (sight (searched .first) (old first)) (sight (searched .second) (old second)) ledger (countersOf (old placements) (old singles) (old multi)) r (old entries) (new entries) ⌝ }
+    requires { ⌜ RankedLent indexed q (now bases) (now ends) (now ranked) (now keys) (now ranks) (now positions)
+        (now first) (now second) searched settings (countersOf (now placements) (now singles) (now multi)) ⌝ }
+    ensures { λ r. ⌜ RankedObserved settings (lentSequences bases ends ranked) (wayIf indexed q) (old ranked)
+        (roleNumber «first_role») (roleNumber «second_role») (sight (searched .first) (old first)) (sight (searched .second) (old second))
+        ledger (lentCounters placements singles multi) r (old entries) (new entries) ⌝ }
 {
     let mode = settings.mode;
     let width = 4 * share_of(mode, entries.len() / 4);

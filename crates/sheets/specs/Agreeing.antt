@@ -4,9 +4,9 @@ use mathlib.Core.List.{List}
 use Prim.Native.Nat.{ℕ}
 use Rattle.ledger.specs.Balance.{balanced}
 use Rattle.ledger.specs.declared.Ledger.{Ledger}
+use Rattle.ledger.specs.Booking.{countersOf}
 use Rattle.audit_rules.specs.declared.settings.AuditInputMode.{AuditInputMode}
 use Rattle.audit_rules.specs.Settings.{rolesOf, statesShown}
-use Rattle.audit_rules.specs.Calls.{countersOf}
 
 -- the books of a ledger and three lists of counters agree, for the roles and states that a run shows
 abbrev pub booksAgree : AuditInputMode → Bool → Ledger → List ℕ → List ℕ → List ℕ → Bool

@@ -1,9 +1,10 @@
 // The reads of an answer booked.
 ghost use mathlib.Core.Path.{_≡_};
 ghost use Rattle.promises.specs.Slice.{old, new};
+ghost use Rattle.ledger.specs.Booking.{countersOf, lentCounters, leftCounters};
 ghost use Rattle.booking.specs.Books.{booksOf, countersPosted};
 ghost use Rattle.audit_rules.specs.Settings.{roleNumber};
-ghost use Rattle.audit_rules.specs.Calls.{countersOf, heldOf};
+ghost use Rattle.audit_rules.specs.Calls.{heldOf, lentHeld};
 ghost use Rattle.tallies.specs.Answers.{tallyOf, answerPostings, answerBooked, AnswerPostable, AnswerPosted, CountersReady, AnswerRaisable};
 use answers::answer::Mapping;
 use answers::answer::state_number;
@@ -102,7 +103,7 @@ fn raise_answer(
     width: usize,
 )
     requires { ⌜ CountersReady answer (roleNumber «first_role») (roleNumber «second_role») width (now entries) (countersOf (now placements) (now singles) (now multi)) ⌝ }
-    ensures { λ _. ⌜ countersOf (new placements) (new singles) (new multi) ≡ countersPosted (answerPostings answer (roleNumber «first_role») (roleNumber «second_role») width (old entries)) (countersOf (old placements) (old singles) (old multi)) ⌝ }
+    ensures { λ _. ⌜ leftCounters placements singles multi ≡ countersPosted (answerPostings answer (roleNumber «first_role») (roleNumber «second_role») width (old entries)) (lentCounters placements singles multi) ⌝ }
 {
     match answer {
         FragmentAnswer::Refused(n) => {}
@@ -141,7 +142,7 @@ pub fn book_answer(
     width: usize,
 ) -> AuditState
     requires { ⌜ AnswerRaisable answer (roleNumber «first_role») (roleNumber «second_role») width (now entries) (heldOf state (now placements) (now singles) (now multi)) ⌝ }
-    ensures { λ r. ⌜ heldOf r (new placements) (new singles) (new multi) ≡ answerBooked ordinal (answerPostings answer (roleNumber «first_role») (roleNumber «second_role») width (old entries)) (heldOf state (old placements) (old singles) (old multi)) ⌝ }
+    ensures { λ r. ⌜ heldOf r (new placements) (new singles) (new multi) ≡ answerBooked ordinal (answerPostings answer (roleNumber «first_role») (roleNumber «second_role») width (old entries)) (lentHeld state placements singles multi) ⌝ }
 {
     let settings = state.settings;
     let posted = post_answer(

@@ -6,9 +6,9 @@ ghost use Rattle.promises.specs.Slice.{old, new};
 ghost use Rattle.names.specs.Lent.{lentCut};
 ghost use Rattle.catalogue.specs.Catalogue.{lentCatalogue};
 ghost use Rattle.seeds.specs.Seeds.{placed};
+ghost use Rattle.ledger.specs.Booking.{countersOf, lentCounters};
 ghost use Rattle.audit_rules.specs.Sheet.{statusNumber};
 ghost use Rattle.audit_rules.specs.Unitigs.{shownNumbers};
-ghost use Rattle.audit_rules.specs.Calls.{countersOf};
 ghost use Rattle.unitigs.specs.Rows.{namesAlike, placeAlike, listsRight, rowsTo, Named, RowsLent, Applies};
 use audit_rules::calls::CallAnswer;
 use audit_rules::sheet::Availability;
@@ -125,7 +125,7 @@ fn write_rows(
     status: Status,
 )
     requires { ⌜ RowsLent (length (now marks)) (countersOf (now placements) (now singles) (now multi)) (now rows) ⌝ }
-    ensures { λ _. ⌜ new rows ≡ rowsTo status (old marks) (countersOf (old placements) (old singles) (old multi)) (length (old marks)) ⌝ }
+    ensures { λ _. ⌜ new rows ≡ rowsTo status (old marks) (lentCounters placements singles multi) (length (old marks)) ⌝ }
 {
     let n = marks.len();
     let mut i: usize = 0;
@@ -149,7 +149,7 @@ fn lists_right(
     audited: usize,
     targets: usize,
 ) -> bool
-    ensures { λ r. ⌜ r ≡ listsRight (old rows) (countersOf (old placements) (old singles) (old multi)) audited targets ⌝ }
+    ensures { λ r. ⌜ r ≡ listsRight (old rows) (lentCounters placements singles multi) audited targets ⌝ }
 {
     if placements.len() != audited {
         return false;
@@ -184,7 +184,9 @@ pub fn apply_to_unitigs(
     marks: &[u8],
     sheet: Sheet,
 ) -> CallAnswer
-    ensures { λ r. ⌜ Applies (lentCatalogue «audited_identifiers» «audited_identifier_ends» «audited_bases» «audited_base_ends» «audited_marks») (lentCatalogue identifiers «identifier_ends» bases «base_ends» marks) sheet (countersOf (old placements) (old singles) (old multi)) (old rows) r (new rows) ⌝ }
+    ensures { λ r. ⌜ Applies (lentCatalogue «audited_identifiers» «audited_identifier_ends» «audited_bases» «audited_base_ends» «audited_marks»)
+        (lentCatalogue identifiers «identifier_ends» bases «base_ends» marks)
+        sheet (lentCounters placements singles multi) (old rows) r (new rows) ⌝ }
 {
     if !in_bounds(identifiers, identifier_ends, bases, base_ends, marks) {
         return CallAnswer::Refused(2);

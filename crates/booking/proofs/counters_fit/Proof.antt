@@ -2,10 +2,10 @@
 -- Assumes nothing.
 use mathlib.Core.Path.{sym, _∙_}
 use native.Mathlib.Omega.{arith}
+use Rattle.ledger.specs.Booking.{countersOf}
 use borrow.Author.Needs.{needs}
 use Rattle.raising.specs.Targets.{small}
 use Rattle.posting.proofs.Joined.{first-fails, second-fails, third-decides}
-use Rattle.booking.specs.Books.{countersOf}
 use Rattle.booking.proofs.Groups.{single-fewer, several-fewer}
 use Rattle.booking.proofs.Raises.{targets-fittable, both, singles-fit, multi-fit}
 use Rattle.booking.proofs.counters_fit.Statement.{statement}

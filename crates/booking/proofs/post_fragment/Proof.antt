@@ -6,7 +6,7 @@ use lib.ListN.{length, length-drop}
 use borrow.Author.Needs.{needs}
 use borrow.Author.Tests.{not-false}
 use Rattle.lists.proofs.Tails.{tail-lent}
-use Rattle.booking.specs.Books.{countersOf}
+use Rattle.ledger.specs.Booking.{countersOf}
 use Rattle.booking.proofs.Fragments.{first-full, none-fittable, one-posted, second-full, groups-fittable, both-posted}
 use Rattle.booking.proofs.post_fragment.Statement.{statement}
 use Rattle.booking.proofs.post_fragment.Tie as tie

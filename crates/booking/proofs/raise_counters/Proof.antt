@@ -1,8 +1,8 @@
 -- `booking::raise_counters` meets its contract.
 -- Assumes nothing.
 use native.Mathlib.Omega.{arith}
+use Rattle.ledger.specs.Booking.{countersOf}
 use borrow.Author.Needs.{needs}
-use Rattle.booking.specs.Books.{countersOf}
 use Rattle.booking.proofs.Raises.{placements-raisable, singles-raisable, multi-raisable, raised-are}
 use Rattle.booking.proofs.raise_counters.Statement.{statement}
 use Rattle.booking.proofs.raise_counters.Tie as tie

@@ -3,7 +3,7 @@
 use native.Mathlib.Omega.{arith}
 use borrow.Author.Needs.{needs}
 use Rattle.lists.proofs.Tails.{tail-lent}
-use Rattle.booking.specs.Books.{countersOf}
+use Rattle.ledger.specs.Booking.{countersOf}
 use Rattle.booking.proofs.Fragments.{first-raisable, second-raisable, one-raised, two-raised}
 use Rattle.booking.proofs.raise_fragment.Statement.{statement}
 use Rattle.booking.proofs.raise_fragment.Tie as tie

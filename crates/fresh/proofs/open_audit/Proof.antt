@@ -1,7 +1,8 @@
 -- `fresh::open_audit` meets its contract: the checks' refusal, or a fresh state and counters of zero.
 -- Assumes nothing.
 use mathlib.Core.Path.{refl}
-use Rattle.audit_rules.specs.Calls.{countersOf, indexIf}
+use Rattle.ledger.specs.Booking.{countersOf}
+use Rattle.audit_rules.specs.Calls.{indexIf}
 use Rattle.fresh.proofs.Starting.{opening-refused, opening-done}
 use borrow.Author.Needs.{needs}
 use Rattle.fresh.proofs.open_audit.Statement.{statement}

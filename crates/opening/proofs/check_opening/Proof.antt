@@ -5,7 +5,7 @@ use mathlib.Core.Bool.{_&&_}
 use mathlib.Core.Logic.{⊎-elim}
 use native.Mathlib.Omega.{arith}
 use Rattle.planning.proofs.Planning.{within-buffer, prefix-length, lent}
-use Rattle.audit_rules.specs.Calls.{countersOf}
+use Rattle.ledger.specs.Booking.{countersOf}
 use Rattle.opening.proofs.Opening.{settings-refused, counters-refused, catalogue-refused, index-refused, all-right}
 use borrow.Author.Needs.{needs}
 use Rattle.opening.proofs.check_opening.Statement.{statement}

@@ -1,7 +1,7 @@
 -- `opening::counters_right` meets its contract, length by length.
 -- Assumes nothing.
 use native.Mathlib.Omega.{arith}
-use Rattle.audit_rules.specs.Calls.{countersOf}
+use Rattle.ledger.specs.Booking.{countersOf}
 use Rattle.opening.proofs.Opening.{placements-other, singles-other, by-multi}
 use Rattle.opening.proofs.counters_right.Statement.{statement}
 use Rattle.opening.proofs.counters_right.Tie as tie

@@ -3,8 +3,7 @@
 use borrow.Author.Needs.{needs}
 use native.Mathlib.Omega.{arith}
 use Rattle.catalogue.specs.Catalogue.{Catalogue}
-use Rattle.ledger.specs.Booking.{Counters}
-use Rattle.audit_rules.specs.Calls.{countersOf}
+use Rattle.ledger.specs.Booking.{Counters, countersOf}
 use Rattle.unitigs.proofs.Applying.{both-named, targets-out, audited-out, lists-out, names-out, rows-lent, applies}
 use Rattle.unitigs.proofs.apply_to_unitigs.Statement.{statement}
 use Rattle.unitigs.proofs.apply_to_unitigs.Tie as tie

@@ -4,7 +4,7 @@ use borrow.Author.Needs.{needs}
 use native.Mathlib.Omega.{arith}
 use Prim.Native.Nat.{_-_}
 use lib.ListN.{length}
-use Rattle.audit_rules.specs.Calls.{countersOf}
+use Rattle.ledger.specs.Booking.{countersOf}
 use Rattle.unitigs.proofs.Writing.{Written, written-start, written-room, written-next, written-end}
 use Rattle.unitigs.proofs.write_rows.Statement.{statement}
 use Rattle.unitigs.proofs.write_rows.Tie as tie

@@ -1,4 +1,4 @@
--- The ranks of a catalogue that no opening refuses.
+-- The ranks of a valid catalogue as an audit counts by them.
 -- Assumes nothing.
 use mathlib.Core.Path.{_≡_, refl, sym, ap, _∙_}
 use mathlib.Core.Bool.{Bool, true}
@@ -11,30 +11,13 @@ use Rattle.lists.specs.Member.{_∈_, Distinct}
 use Rattle.lists.specs.Order.{StrictOrder, Ascending}
 use Rattle.lists.proofs.Member.{∈-map, map-∈, ∈-getD}
 use Rattle.lists.proofs.Order.{later-differs}
-use Rattle.promises.specs.Refusal.{unless}
-use Rattle.promises.proofs.Refusing.{none-first, none-second}
 use Rattle.names.proofs.NameLaws.{place-order}
 use Rattle.names.specs.Name.{placeBefore}
-use Rattle.catalogue.specs.Catalogue.{Catalogue, Target, Valid, names, sequences, targetsFrom, targets, isMapped, catalogueRefusal, mapped, suppliedPlaces}
+use Rattle.catalogue.specs.Catalogue.{Catalogue, Target, Valid, names, sequences, targetsFrom, targets, isMapped, mapped, suppliedPlaces}
 use Rattle.catalogue.proofs.Mapped.{mapped-∈, ∈-mapped}
-use Rattle.catalogue.proofs.Refusals.{valid}
-use Rattle.answers.specs.Bounds.{limitRight}
 use Rattle.indexed_mapper.specs.Match.{rankOf}
 use Rattle.indexed_mapper.proofs.Matching.{places-ascend, rank-is}
-use Rattle.ledger.specs.Booking.{Counters}
 use Rattle.ledger.specs.Counting.{Ranked}
-use Rattle.audit_rules.specs.declared.settings.Settings.{Settings}
-use Rattle.audit_rules.specs.Settings.{floorRight}
-use Rattle.audit_rules.specs.Opening.{IndexLent, countersRight, openingRefusal}
-
--- the opening's checks have passed
-pub opening-valid : (q offset : ℕ) (c : Catalogue) (lent : IndexLent) (s : Settings) (k : Counters) → openingRefusal q offset c lent s k ≡ 0 → Valid c
-unfolding openingRefusal
-opening-valid q offset c lent s k e =
-    let behind-floor = none-second (unless (floorRight offset (s .floor)) 11) _ e in
-    let behind-limit = none-second (unless (limitRight (s .limit)) 9) _ behind-floor in
-    let behind-counters = none-second (unless (countersRight c k) 2) _ behind-limit in
-    valid c (none-first (catalogueRefusal c) _ behind-counters)
 
 -- in a list that ascends no element stands twice
 ascending-distinct : {A : Type 0} (less : A → A → Bool) → StrictOrder less → (xs : List A) → Ascending less xs → Distinct xs
