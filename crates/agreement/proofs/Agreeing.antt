@@ -85,10 +85,10 @@ module _ (q offset : ℕ) (some : 1 ≤ q) (c : Catalogue) (right : Valid c) whe
       second k = record { rows = outcome k (map (mateRow offset (h .state .settings) (mappedSequences c) plain) (plainFragment h x .reads)); entries = entriesLeft k (fragmentWritten q offset c none h (plainFragment h x) (x .plainEntries)) (x .plainEntries) }
 
       next : ℕ → Held
-      next k = heldAfter q offset c (lent h x) h (fragment h x) k
+      next k = heldAfter k (fragmentAccepted q offset c (lent h x) h (fragment h x)) h
 
       next′ : ℕ → Held
-      next′ k = heldAfter q offset c none h (plainFragment h x) k
+      next′ k = heldAfter k (fragmentAccepted q offset c none h (plainFragment h x)) h
 
       join : (y y′ : Held) → y ≡ y′ → ((g : Held) → Together xs g g → CallsEnd (g .state .settings) xs g g) → Together xs y y′ → CallsEnd (y .state .settings) xs y y′
       join y y′ e ih t = subst (λ (g : Held). CallsEnd (y .state .settings) xs y g) e (ih y (t ∙ ap (λ (g : Held). refusals (answers q offset c g (map plainCall xs))) (sym e)))

@@ -27,7 +27,7 @@ use Rattle.audit_rules.specs.declared.settings.Settings.{Settings}
 use Rattle.audit_rules.specs.Settings.{Held, roleNumber, statesShown}
 use Rattle.audit_rules.specs.Opening.{wayOf}
 use Rattle.audit_rules.specs.Observing.{MateRead, isEligible, noWork, mateBooked}
-use Rattle.audit_rules.specs.Fragment.{fragmentRefusal, fragmentBooked, heldAfter}
+use Rattle.audit_rules.specs.Fragment.{fragmentRefusal, fragmentBooked, fragmentAccepted, heldAfter}
 use Rattle.agreement.proofs.Turned.{listed-∈}
 use Rattle.audit_rules.specs.Run.{Call, ifAccepted, next, books, after, history}
 
@@ -81,7 +81,7 @@ module _ (q offset : ℕ) (c : Catalogue) where
   pub settings-stay : (h : Held) (x : Call) → next q offset c h x .state .settings ≡ h .state .settings
   settings-stay h x = go (fragmentRefusal q offset c (x .lent) h (x .fragment) (entryCount (x .entries)))
     where
-      go : (n : ℕ) → heldAfter q offset c (x .lent) h (x .fragment) n .state .settings ≡ h .state .settings
+      go : (n : ℕ) → heldAfter n (fragmentAccepted q offset c (x .lent) h (x .fragment)) h .state .settings ≡ h .state .settings
       go zero = refl
       go (suc n) = refl
 

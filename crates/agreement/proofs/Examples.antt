@@ -16,12 +16,12 @@ use Rattle.indexed_mapper.proofs.Board.{board-holds}
 use Rattle.ledger.specs.Booking.{countable}
 use Rattle.ledger.specs.Balance.{balanced}
 use Rattle.audit_rules.specs.Opening.{openingRefusal}
-use Rattle.audit_rules.specs.Fragment.{fragmentRefusal}
+use Rattle.audit_rules.specs.Fragment.{testedRefusal, fragmentRefusal}
 use Rattle.audit_rules.specs.Sheet.{finishRefusal}
 use Rattle.agreement.specs.Examples.{catchRun, RunHolds, examples, AllHold, mapper}
 
 catch-holds : RunHolds catchRun
-unfolding codeOf complementOf upperOf isCapital reverseComplement eligibility inBounds catalogueRefusal mapped keyOf indexOf places matches groups comparable work countable balanced openingRefusal fragmentRefusal finishRefusal
+unfolding codeOf complementOf upperOf isCapital reverseComplement eligibility inBounds catalogueRefusal mapped keyOf indexOf places matches groups comparable work countable balanced openingRefusal fragmentRefusal testedRefusal finishRefusal
 catch-holds = record { opened = refl; answered = refl; listed = refl; finished = refl; counted = refl; by-target = refl; in-all = refl; worded = refl }
 
 mapper-holds : (xs : List board.Example) → board.AllHold xs → AllHold (map mapper xs)

@@ -9,7 +9,7 @@ use Rattle.scan.specs.Entries.{entryCount}
 use Rattle.ledger.specs.Booking.{bookedAll, countable}
 use Rattle.ledger.proofs.Booking.{booked-append}
 use Rattle.audit_rules.specs.Settings.{Held, booksOf}
-use Rattle.audit_rules.specs.Fragment.{fragmentRefusal, fragmentBooked, heldAfter}
+use Rattle.audit_rules.specs.Fragment.{fragmentRefusal, fragmentBooked, fragmentAccepted, heldAfter}
 use Rattle.audit_rules.proofs.Checking.{fragment-checked}
 use Rattle.audit_rules.proofs.Booked.{refused-holds}
 use Rattle.agreement.specs.Meaning.{CanBeLeftOut}
@@ -23,20 +23,20 @@ module _ (q offset : ℕ) (c : Catalogue) (h : Held) (x : Call) where
 
   -- a refused one leaves state and counters as they were
   pub refused-leaves : (refusal ≡ 0 → ⊥) → next q offset c h x ≡ h
-  refused-leaves = refused-holds q offset c (x .lent) h (x .fragment) refusal
+  refused-leaves ne = refused-holds refusal ne (fragmentAccepted q offset c (x .lent) h (x .fragment)) h
 
   -- the books after a call are those before it with what it books
   next-books : booksOf (next q offset c h x) ≡ bookedAll (suppliedPlaces c) (books q offset c h x) (booksOf h)
   next-books = go refusal
     where
-      go : (n : ℕ) → booksOf (heldAfter q offset c (x .lent) h (x .fragment) n) ≡ bookedAll (suppliedPlaces c) (ifAccepted n (fragmentBooked q offset c (x .lent) h (x .fragment))) (booksOf h)
+      go : (n : ℕ) → booksOf (heldAfter n (fragmentAccepted q offset c (x .lent) h (x .fragment)) h) ≡ bookedAll (suppliedPlaces c) (ifAccepted n (fragmentBooked q offset c (x .lent) h (x .fragment))) (booksOf h)
       go zero = refl
       go (suc n) = refl
 
   next-countable : countable (booksOf h) ≡ true → countable (booksOf (next q offset c h x)) ≡ true
   next-countable = go refusal refl
     where
-      go : (n : ℕ) → refusal ≡ n → countable (booksOf h) ≡ true → countable (booksOf (heldAfter q offset c (x .lent) h (x .fragment) n)) ≡ true
+      go : (n : ℕ) → refusal ≡ n → countable (booksOf h) ≡ true → countable (booksOf (heldAfter n (fragmentAccepted q offset c (x .lent) h (x .fragment)) h)) ≡ true
       go zero e t = fragment-checked q offset c (x .lent) h (x .fragment) (entryCount (x .entries)) e .counts
       go (suc n) e t = t
 

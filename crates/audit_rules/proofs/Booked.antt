@@ -19,12 +19,12 @@ use Rattle.audit_rules.specs.declared.settings.Settings.{Settings}
 use Rattle.audit_rules.specs.Settings.{Held, roleNumber}
 use Rattle.audit_rules.specs.Opening.{IndexLent, columns, wayOf}
 use Rattle.audit_rules.specs.Observing.{MateRead, isSearched, mateRow}
-use Rattle.audit_rules.specs.Fragment.{Fragment, fragmentBooked, heldAfter}
+use Rattle.audit_rules.specs.Fragment.{fragmentBooked, heldAfter}
 
 -- a refused call leaves state and counters as they were
-pub refused-holds : (q offset : ℕ) (c : Catalogue) (lent : IndexLent) (h : Held) (f : Fragment) (n : ℕ) → (n ≡ 0 → ⊥) → heldAfter q offset c lent h f n ≡ h
-refused-holds q offset c lent h f zero ne = absurd (ne refl)
-refused-holds q offset c lent h f (suc n) ne = refl
+pub refused-holds : (n : ℕ) → (n ≡ 0 → ⊥) → (accepted h : Held) → heldAfter n accepted h ≡ h
+refused-holds zero ne accepted h = absurd (ne refl)
+refused-holds (suc n) ne accepted h = refl
 
 -- what is booked of each read: its role, and the state of its row
 abbrev pub EachBooked : List MateRead → List Row → List Booked → Type 0

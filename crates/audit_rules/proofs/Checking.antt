@@ -13,7 +13,7 @@ use Rattle.audit_rules.specs.declared.settings.Settings.{Settings}
 use Rattle.audit_rules.specs.Settings.{Held}
 use Rattle.audit_rules.specs.Opening.{IndexLent, openingRefusal}
 use Rattle.audit_rules.specs.Observing.{mateRefusal, mateRoom}
-use Rattle.audit_rules.specs.Fragment.{Fragment, inOrder, rolesRight, firstOf, shareOf, fragmentRefusal, fragmentBooks}
+use Rattle.audit_rules.specs.Fragment.{Fragment, inOrder, rolesRight, firstOf, shareOf, testedRefusal, fragmentRefusal, fragmentBooks}
 
 -- every check has passed
 pub record Checked (q offset : ℕ) (c : Catalogue) (lent : IndexLent) (h : Held) (f : Fragment) (entries : ℕ) : Type 0 where
@@ -25,7 +25,7 @@ pub record Checked (q offset : ℕ) (c : Catalogue) (lent : IndexLent) (h : Held
   pub counts : countable (fragmentBooks q offset c lent h f) ≡ true
 
 pub fragment-checked : (q offset : ℕ) (c : Catalogue) (lent : IndexLent) (h : Held) (f : Fragment) (entries : ℕ) → fragmentRefusal q offset c lent h f entries ≡ 0 → Checked q offset c lent h f entries
-unfolding fragmentRefusal
+unfolding fragmentRefusal testedRefusal
 fragment-checked q offset c lent h f entries e =
     let s : Settings = h .state .settings in
     let a = none-second (openingRefusal q offset c lent s (h .counters)) _ e in

@@ -9,6 +9,7 @@ use Rattle.catalogue.specs.Catalogue.{Catalogue, suppliedPlaces}
 use Rattle.seeds.specs.Seeds.{placed}
 use Rattle.index.specs.Index.{mappedSequences}
 use Rattle.scan.specs.Entries.{entryCount, cleared}
+use Rattle.index_search.specs.Work.{Way}
 use Rattle.answers.specs.Answer.{Row}
 use Rattle.ledger.specs.Booking.{Booked, Books, bookedAll, countable}
 use Rattle.audit_rules.specs.declared.settings.AuditInputMode.{AuditInputMode}
@@ -57,58 +58,79 @@ abbrev pub entriesLeft : ℕ → List ℕ → List ℕ → List ℕ
 entriesLeft zero written buffer = written
 entriesLeft (suc n) written buffer = cond (eqb (suc n) 10 || eqb (suc n) 17) (cleared buffer) buffer
 
--- ---- the call, of an audit with seeds of q bases and qualities from an offset on
+-- ---- a fragment in a catalogue that was tested: sequences by rank, the supplied place of each, and a way to search them
 
-module _ (q offset : ℕ) (c : Catalogue) (lent : IndexLent) (h : Held) (f : Fragment) where
+module _ (offset : ℕ) (ss : List (List ℕ)) (way : Way) (ranked : List ℕ) (h : Held) (f : Fragment) where
   abbrev settings : Settings
   settings = h .state .settings
 
-  abbrev ss : List (List ℕ)
-  ss = mappedSequences c
-
   -- what is booked of its reads
-  abbrev pub fragmentBooked : List Booked
-  fragmentBooked = map (mateBooked offset settings ss (wayOf q lent)) (f .reads)
+  abbrev pub testedBooked : List Booked
+  testedBooked = map (mateBooked offset settings ss way) (f .reads)
 
   -- the books with its reads
-  abbrev pub fragmentBooks : Books
-  fragmentBooks = bookedAll (suppliedPlaces c) fragmentBooked (booksOf h)
+  abbrev pub testedBooks : Books
+  testedBooks = bookedAll ranked testedBooked (booksOf h)
 
-  -- the opening's checks; 12; 13; 7 and 14 to 16 of each read in turn; 10 of each read; 17: the first that holds
-  unfoldable pub fragmentRefusal : ℕ → ℕ
-  fragmentRefusal entries =
-      openingRefusal q offset c lent settings (h .counters)
-      orElse unless (inOrder (h .state .last) (f .ordinal)) 12
+  -- 12; 13; 7 and 14 to 16 of each read in turn; 10 of each read; 17: the first that holds
+  unfoldable pub testedRefusal : ℕ → ℕ
+  testedRefusal entries =
+      unless (inOrder (h .state .last) (f .ordinal)) 12
       orElse unless (rolesRight (settings .mode) (f .reads)) 13
       orElse firstOf (mateRefusal offset settings) (f .reads)
       orElse firstOf (mateRoom offset settings ss (shareOf (settings .mode) entries)) (f .reads)
-      orElse unless (countable fragmentBooks) 17
+      orElse unless (countable testedBooks) 17
+
+  -- a row for each read
+  abbrev pub testedRows : List Row
+  testedRows = map (mateRow offset settings ss way) (f .reads)
+
+  -- accepted, its ordinal is the last, and its reads are booked
+  abbrev pub testedAccepted : Held
+  testedAccepted =
+      record {
+        state = record { settings = settings; last = ordinals.Accepted (f .ordinal); ledger = testedBooks .ledger };
+        counters = testedBooks .counters;
+      }
+
+  -- the entries of an accepted fragment: the listed groups of each read at the front of its part, and zero behind them
+  abbrev pub testedWritten : List ℕ → List ℕ
+  testedWritten buffer =
+      inParts (4 * shareOf (settings .mode) (entryCount buffer)) 0
+      (map (mateEntries offset settings ss ranked) (f .reads)) (cleared buffer)
+
+-- a refusal leaves state and counters as they were
+abbrev pub heldAfter : ℕ → Held → Held → Held
+heldAfter zero accepted h = accepted
+heldAfter (suc n) accepted h = h
+
+-- ---- the call, of an audit with seeds of q bases and qualities from an offset on
+
+module _ (q offset : ℕ) (c : Catalogue) (lent : IndexLent) (h : Held) (f : Fragment) where
+  abbrev pub fragmentBooked : List Booked
+  fragmentBooked = testedBooked offset (mappedSequences c) (wayOf q lent) (suppliedPlaces c) h f
+
+  abbrev pub fragmentBooks : Books
+  fragmentBooks = testedBooks offset (mappedSequences c) (wayOf q lent) (suppliedPlaces c) h f
+
+  -- the opening's checks, then its own: the first that holds
+  unfoldable pub fragmentRefusal : ℕ → ℕ
+  fragmentRefusal entries =
+      openingRefusal q offset c lent (h .state .settings) (h .counters)
+      orElse testedRefusal offset (mappedSequences c) (wayOf q lent) (suppliedPlaces c) h f entries
 
   -- the answer: a row for each read
   abbrev pub fragmentAnswer : ℕ → Outcome (List Row)
-  fragmentAnswer entries = outcome (fragmentRefusal entries) (map (mateRow offset settings ss (wayOf q lent)) (f .reads))
+  fragmentAnswer entries = outcome (fragmentRefusal entries) (testedRows offset (mappedSequences c) (wayOf q lent) (suppliedPlaces c) h f)
 
-  -- an accepted fragment's ordinal is the last, and its reads are booked
   abbrev pub fragmentAccepted : Held
-  fragmentAccepted =
-      record {
-        state = record { settings = settings; last = ordinals.Accepted (f .ordinal); ledger = fragmentBooks .ledger };
-        counters = fragmentBooks .counters;
-      }
-
-  -- a refusal leaves state and counters as they were
-  abbrev pub heldAfter : ℕ → Held
-  heldAfter zero = fragmentAccepted
-  heldAfter (suc n) = h
+  fragmentAccepted = testedAccepted offset (mappedSequences c) (wayOf q lent) (suppliedPlaces c) h f
 
   abbrev pub fragmentHeld : ℕ → Held
-  fragmentHeld entries = heldAfter (fragmentRefusal entries)
+  fragmentHeld entries = heldAfter (fragmentRefusal entries) fragmentAccepted h
 
-  -- the entries of an accepted fragment: the listed groups of each read at the front of its part, and zero behind them
   abbrev pub fragmentWritten : List ℕ → List ℕ
-  fragmentWritten buffer =
-      inParts (4 * shareOf (settings .mode) (entryCount buffer)) 0
-      (map (mateEntries offset settings ss (suppliedPlaces c)) (f .reads)) (cleared buffer)
+  fragmentWritten = testedWritten offset (mappedSequences c) (wayOf q lent) (suppliedPlaces c) h f
 
   abbrev pub fragmentEntries : List ℕ → List ℕ
   fragmentEntries buffer = entriesLeft (fragmentRefusal (entryCount buffer)) (fragmentWritten buffer) buffer
