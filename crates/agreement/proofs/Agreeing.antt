@@ -48,8 +48,8 @@ module _ (q offset : ℕ) (some : 1 ≤ q) (c : Catalogue) (right : Valid c) whe
           (map (mateRow offset s (mappedSequences c) (byIndex q)) (fragment .reads)) (map (mateRow offset s (mappedSequences c) plain) (plainFragment .reads))
           (fragmentWritten q offset c lent h fragment (x .entries)) (fragmentWritten q offset c none h plainFragment (x .plainEntries))
       fragment-agrees =
-          let a = fragment-checked q offset c lent h fragment (entryCount (x .entries)) z in
-          let b = fragment-checked q offset c none h plainFragment (entryCount (x .plainEntries)) z′ in
+          let a = fragment-checked q offset c lent h fragment (entryCount (x .entries)) z .own in
+          let b = fragment-checked q offset c none h plainFragment (entryCount (x .plainEntries)) z′ .own in
           all-agree q offset some c right s (x .reads) (a .reads) (b .reads) (4 * shareOf (s .mode) (entryCount (x .entries))) (4 * shareOf (s .mode) (entryCount (x .plainEntries))) 0 0
           (x .entries) (fragmentWritten q offset c lent h fragment (x .entries)) (x .plainEntries) (fragmentWritten q offset c none h plainFragment (x .plainEntries))
           (reads-in-parts offset s (mappedSequences c) (suppliedPlaces c) (fragment .reads) (x .entries) (a .roles) (a .rooms))
@@ -58,8 +58,8 @@ module _ (q offset : ℕ) (some : 1 ≤ q) (c : Catalogue) (right : Valid c) whe
       -- and both hold the same
       held-same : fragmentAccepted q offset c lent h fragment ≡ fragmentAccepted q offset c none h plainFragment
       held-same =
-          let a = fragment-checked q offset c lent h fragment (entryCount (x .entries)) z in
-          let b = fragment-checked q offset c none h plainFragment (entryCount (x .plainEntries)) z′ in
+          let a = fragment-checked q offset c lent h fragment (entryCount (x .entries)) z .own in
+          let b = fragment-checked q offset c none h plainFragment (entryCount (x .plainEntries)) z′ .own in
           ap (λ (k : Books). record { state = record { settings = s; last = ordinals.Accepted (x .ordinal); ledger = k .ledger }; counters = k .counters })
           (all-booked q offset some c right s (x .reads) (a .reads) (b .reads) (booksOf h))
 

@@ -64,7 +64,7 @@ module _ (q offset : ℕ) (c : Catalogue) (h : Held) (x : Call) (rows : List Row
   in-parts : InParts cleared width 0 (map (mateEntries offset s (mappedSequences c) (suppliedPlaces c)) (x .fragment .reads)) (x .entries) (answerTo q offset c h x .entries)
   in-parts =
       subst (λ n. InParts cleared width 0 (map (mateEntries offset s (mappedSequences c) (suppliedPlaces c)) (x .fragment .reads)) (x .entries) (entriesLeft n (fragmentWritten q offset c (x .lent) h (x .fragment) (x .entries)) (x .entries)))
-      (sym (answered .0)) (reads-in-parts offset s (mappedSequences c) (suppliedPlaces c) (x .fragment .reads) (x .entries) (checked .roles) (checked .rooms))
+      (sym (answered .0)) (reads-in-parts offset s (mappedSequences c) (suppliedPlaces c) (x .fragment .reads) (x .entries) (checked .own .roles) (checked .own .rooms))
 
   reads-mean : (reads : List MateRead) (from : ℕ) → InParts cleared width from (map (mateEntries offset s (mappedSequences c) (suppliedPlaces c)) reads) (x .entries) (answerTo q offset c h x .entries)
       → ReadsMean offset s c width from reads (map (mateRow offset s (mappedSequences c) (wayOf q (x .lent))) reads) (map (mateBooked offset s (mappedSequences c) (wayOf q (x .lent))) reads) (x .entries) (answerTo q offset c h x .entries)

@@ -37,7 +37,7 @@ module _ (q offset : ℕ) (c : Catalogue) (h : Held) (x : Call) where
   next-countable = go refusal refl
     where
       go : (n : ℕ) → refusal ≡ n → countable (booksOf h) ≡ true → countable (booksOf (heldAfter n (fragmentAccepted q offset c (x .lent) h (x .fragment)) h)) ≡ true
-      go zero e t = fragment-checked q offset c (x .lent) h (x .fragment) (entryCount (x .entries)) e .counts
+      go zero e t = fragment-checked q offset c (x .lent) h (x .fragment) (entryCount (x .entries)) e .own .counts
       go (suc n) e t = t
 
 -- ---- a list of calls

@@ -84,7 +84,7 @@ module _ {A : Type 0} (f : A → ℕ) (x y : A) where
   none-of-mode m k e = rw (k, e)
 
 -- an answer that is not a refusal
-not-refused : (r : FragmentAnswer) (n : ℕ) (rows : List Row) → OneOf (1 ∷ 2 ∷ []) (tagOf the-type r) → fragmentOutcome r ≡ outcome n rows → n ≡ 0
+pub not-refused : (r : FragmentAnswer) (n : ℕ) (rows : List Row) → OneOf (1 ∷ 2 ∷ []) (tagOf the-type r) → fragmentOutcome r ≡ outcome n rows → n ≡ 0
 not-refused (fragments.Refused k) n rows t e = absurd (miss (1 ∷ 2 ∷ []) 0 tt t)
 not-refused (fragments.Single m) n rows t e = outcome-accepted n rows (mappingRow m ∷ []) (sym e) .0
 not-refused (fragments.Paired m) n rows t e = outcome-accepted n rows (mappingRow (m .first) ∷ mappingRow (m .second) ∷ []) (sym e) .0

@@ -268,7 +268,7 @@ module _ (s : Settings) (ss : List (List ℕ)) (way : Way) (ranked : List ℕ) (
 
 -- ---- as the function has it
 
-few-roles : (role : MateRole) → roleNumber role < 3
+pub few-roles : (role : MateRole) → roleNumber role < 3
 few-roles roles.S = omega arith
 few-roles roles.R1 = omega arith
 few-roles roles.R2 = omega arith

@@ -1,0 +1,128 @@
+-- An observed fragment booked.
+-- Assumes nothing.
+use mathlib.Core.Path.{_≡_, refl, sym, ap, ap₂, subst, _∙_}
+use mathlib.Core.Bool.{true}
+use mathlib.Core.List.{List, [], _∷_, map}
+use Prim.Native.Nat.{ℕ, _*_}
+use lib.ListN.{length}
+use types.Run.{OneOf, miss}
+use denote.Enum.Declared.{tagOf}
+use Rattle.promises.specs.Refusal.{outcome}
+use Rattle.promises.proofs.Refusing.{outcome-number}
+use Rattle.scan.specs.Entries.{entryCount, cleared}
+use Rattle.index_search.specs.Work.{Way}
+use Rattle.answers.specs.Bounds.{limitRight}
+use Rattle.ledger.specs.Booking.{Books, Counters, bookedAll}
+use Rattle.ledger.specs.Counting.{Ranked}
+use Rattle.booking.specs.Books.{CountersFor, postedAll, booksSmall}
+use Rattle.audit_rules.specs.declared.calls.FragmentAnswer.{FragmentAnswer}
+use Rattle.audit_rules.specs.declared.calls.FragmentAnswer.the-variants as fragments
+use Rattle.audit_rules.proofs.calls.FragmentAnswer.{the-type}
+use Rattle.audit_rules.specs.declared.settings.AuditState.{AuditState}
+use Rattle.audit_rules.specs.declared.settings.LastOrdinal.the-variants as ordinals
+use Rattle.audit_rules.specs.declared.settings.Settings.{Settings}
+use Rattle.audit_rules.specs.Settings.{Held, booksOf, roleNumber}
+use Rattle.audit_rules.specs.Observing.{MateRead, Sight, sightOf, sightRoom, sightEntries, sightRow, mateRow, mateEntries, mateBooked}
+use Rattle.audit_rules.specs.Fragment.{Fragment, firstOf, shareOf, inParts, entriesLeft, testedBooks, testedRefusal, testedRows, testedAccepted, heldAfter}
+use Rattle.audit_rules.specs.Calls.{fragmentOutcome, lentReads, fragmentOf}
+use Rattle.audit_rules.proofs.Checking.{TestedChecked, tested-checked}
+use Rattle.audit_rules.proofs.Booked.{refused-holds}
+use Rattle.checking.specs.Checks.{byMode}
+use Rattle.observing.specs.Reads.{roomsRefusal, ReadsObserved}
+use Rattle.observing.proofs.Fragment.{not-refused}
+use Rattle.tallies.specs.Answers.{answerPostings, answerBooked, AnswerRaisable}
+use Rattle.tallies.proofs.Posted.{posted-all, books-countable}
+use Rattle.ranked_reads.specs.Observe.{sightBooked}
+use Rattle.ranked_reads.proofs.Observed.{few-roles, AnswerTold, told}
+use Rattle.tested_fragments.specs.Tested.{TestedObserved, TestedAudited}
+use Rattle.tested_fragments.proofs.Chain.{roles-same, reads-by-mode}
+use Rattle.tested_fragments.proofs.Joining.{by-mates, rooms-same, booked-same}
+
+module _ (offset : ℕ) (ss : List (List ℕ)) (way : Way) (ranked : List ℕ) (h : Held) (ordinal count : ℕ) (m m′ : MateRead) (buffer entries : List ℕ) (r : FragmentAnswer)
+    (seen : TestedObserved offset ss way ranked h (fragmentOf ordinal count m m′) r buffer entries) where
+  abbrev s : Settings
+  s = h .state .settings
+
+  abbrev f : Fragment
+  f = fragmentOf ordinal count m m′
+
+  abbrev refusal : ℕ
+  refusal = testedRefusal offset ss way ranked h f (entryCount buffer)
+
+  -- refused, everything is held as it was
+  pub audit-refused : (n : ℕ) → r ≡ fragments.Refused n → (k : Counters) → k ≡ h .counters → TestedAudited offset ss way ranked h f (record { answer = fragments.Refused n; state = h .state }) k buffer entries
+  audit-refused n told k same =
+      let w = outcome-number refusal n (testedRows offset ss way ranked h f) (sym (seen .answer) ∙ ap fragmentOutcome told) in
+      record {
+        observed = subst (λ a. TestedObserved offset ss way ranked h f a buffer entries) told seen;
+        held = ap {B = Held} (λ z. record { state = h .state; counters = z }) same ∙ sym (refused-holds refusal (λ z. w .1 (sym (w .0) ∙ z)) (testedAccepted offset ss way ranked h f) h);
+      }
+
+  -- accepted
+  module _ (tag : OneOf (1 ∷ 2 ∷ []) (tagOf the-type r)) where
+    accepted : (n : ℕ) → r ≡ fragments.Refused n → ⊥
+    accepted n e = miss (1 ∷ 2 ∷ []) 0 tt (subst (λ a. OneOf (1 ∷ 2 ∷ []) (tagOf the-type a)) e tag)
+
+    unrefused : refusal ≡ 0
+    unrefused = not-refused r refusal (testedRows offset ss way ranked h f) tag (seen .answer)
+
+    checked : TestedChecked offset ss way ranked h f (entryCount buffer)
+    checked = tested-checked offset ss way ranked h f (entryCount buffer) unrefused
+
+    reads-are : lentReads count m m′ ≡ byMode (s .mode) m m′
+    reads-are = reads-by-mode (s .mode) count m m′ (sym (roles-same (s .mode) count m m′) ∙ checked .roles)
+
+    abbrev one : Sight
+    one = sightOf offset s m
+
+    abbrev two : Sight
+    two = sightOf offset s m′
+
+    abbrev rooms : ℕ
+    rooms = roomsRefusal s ss way ranked (byMode (s .mode) one two) (entryCount buffer)
+
+    rooms-pass : rooms ≡ 0
+    rooms-pass = rooms-same offset s m m′ one two refl (λ e. refl) (sightRoom s ss (shareOf (s .mode) (entryCount buffer))) ∙ ap (firstOf _) (sym reads-are) ∙ checked .rooms
+
+    -- its reads were observed
+    reads-seen : ReadsObserved s ss way ranked (byMode (s .mode) one two) r buffer entries
+    reads-seen =
+        record {
+          answer = seen .answer ∙ ap₂ outcome (unrefused ∙ sym rooms-pass) (ap (map (mateRow offset s ss way)) reads-are ∙ sym (by-mates offset s m m′ one two refl (λ e. refl) (sightRow s ss way)));
+          entries =
+              seen .left
+              ∙ ap₂ (λ n l. entriesLeft n (inParts (4 * shareOf (s .mode) (entryCount buffer)) 0 l (cleared buffer)) buffer) (unrefused ∙ sym rooms-pass)
+              (ap (map (mateEntries offset s ss ranked)) reads-are ∙ sym (by-mates offset s m m′ one two refl (λ e. refl) (sightEntries s ss ranked)));
+        }
+
+    module _ (limit : limitRight (s .limit) ≡ true) (counters : CountersFor (length (h .counters .placements)) (h .counters)) (places : Ranked (length (h .counters .placements)) ranked)
+        (many : length ranked ≡ length ss) (w : ℕ) (share : w ≡ shareOf (s .mode) (entryCount buffer)) where
+      of-answer : AnswerTold s ss way ranked (roleNumber (m .role)) (roleNumber (m′ .role)) one two buffer entries (length (h .counters .placements)) places many limit (few-roles (m .role), few-roles (m′ .role)) (s .mode) (h .counters) r
+      of-answer =
+          told s ss way ranked (roleNumber (m .role)) (roleNumber (m′ .role)) one two buffer entries (length (h .counters .placements)) places many limit (few-roles (m .role), few-roles (m′ .role))
+          (h .counters) refl counters r reads-seen
+
+      -- what is posted are the books with its reads
+      posted-is : postedAll (answerPostings r (roleNumber (m .role)) (roleNumber (m′ .role)) (4 * w) entries) (booksOf h) ≡ testedBooks offset ss way ranked h f
+      posted-is =
+          ap (λ z. postedAll (answerPostings r (roleNumber (m .role)) (roleNumber (m′ .role)) (4 * z) entries) (booksOf h)) share
+          ∙ posted-all ranked (answerPostings r (roleNumber (m .role)) (roleNumber (m′ .role)) (4 * shareOf (s .mode) (entryCount buffer)) entries) (byMode (s .mode) (sightBooked s ss way (roleNumber (m .role)) one) (sightBooked s ss way (roleNumber (m′ .role)) two)) (of-answer .posts accepted) (booksOf h)
+          ∙ ap (λ l. bookedAll ranked l (booksOf h)) (booked-same offset s m m′ one two refl (λ e. refl) ss way ∙ ap (map (mateBooked offset s ss way)) (sym reads-are))
+
+      -- there is room for them
+      pub raisable : AnswerRaisable r (roleNumber (m .role)) (roleNumber (m′ .role)) (4 * w) entries h
+      raisable =
+          record {
+            accepted = accepted;
+            postable = rw share (of-answer .postable);
+            fits = ap booksSmall posted-is ∙ sym (books-countable (testedBooks offset ss way ranked h f)) ∙ checked .counts;
+          }
+
+      -- booked
+      pub audit-booked : (state : AuditState) (k : Counters) → _≡_ {A = Held} (record { state = state; counters = k }) (answerBooked ordinal (answerPostings r (roleNumber (m .role)) (roleNumber (m′ .role)) (4 * w) entries) h)
+          → TestedAudited offset ss way ranked h f (record { answer = r; state = state }) k buffer entries
+      audit-booked state k e =
+          record {
+            observed = seen;
+            held = e ∙ ap {B = Held} (λ (b : Books). record { state = record { settings = s; last = ordinals.Accepted ordinal; ledger = b .ledger }; counters = b .counters }) posted-is ∙ ap (λ n. heldAfter n (testedAccepted offset ss way ranked h f) h) (sym unrefused);
+          }

@@ -1,0 +1,4 @@
+pub mod Chain
+pub mod Joining
+pub mod Observed
+pub mod Booked
