@@ -1,0 +1,78 @@
+// An audit finished.
+ghost use Rattle.bases.specs.Eligibility.{lastQuality};
+ghost use Rattle.catalogue.specs.Catalogue.{lentCatalogue};
+ghost use Rattle.seeds.specs.Key.{SeedLength};
+ghost use Prim.Native.Nat.{_≤_};
+ghost use Rattle.audit_rules.specs.Calls.{lentHeld, lentIndex, Finishes};
+use audit_rules::calls::CallAnswer;
+use audit_rules::calls::Finish;
+use audit_rules::settings::AuditState;
+use catalogue::ranks::Ranking;
+use fresh::zero_state;
+use opening::check_opening;
+use sheets::balance::books_agree;
+use sheets::showing::sheet_of;
+
+// Finishes an audit with seeds of q bases and qualities from an offset on: refused, or its sheet.
+pub fn finish_audit(
+    placements: &[u64],
+    singles: &[u64],
+    multi: &[u64],
+    keys: &[u64],
+    ranks: &[u64],
+    positions: &[u64],
+    identifiers: &[u8],
+    identifier_ends: &[usize],
+    bases: &[u8],
+    base_ends: &[usize],
+    marks: &[u8],
+    indexed: bool,
+    q: usize,
+    offset: u8,
+    state: AuditState,
+) -> Finish
+    requires { ⌜ SeedLength q × (offset ≤ lastQuality) ⌝ }
+    ensures { λ r. ⌜ Finishes q offset (lentCatalogue identifiers «identifier_ends» bases «base_ends» marks) (lentIndex indexed keys ranks positions)
+        (lentHeld state placements singles multi) r ⌝ }
+{
+    let mut ranked = [0usize; 4096];
+    let settings = state.settings;
+    let ledger = state.ledger;
+    let ranking = check_opening(
+        &mut ranked,
+        placements,
+        singles,
+        multi,
+        keys,
+        ranks,
+        positions,
+        identifiers,
+        identifier_ends,
+        bases,
+        base_ends,
+        marks,
+        indexed,
+        q,
+        offset,
+        settings,
+    );
+    let nothing = sheet_of(zero_state());
+    match ranking {
+        Ranking::Refused(n) => Finish {
+            answer: CallAnswer::Refused(n),
+            sheet: nothing,
+        },
+        Ranking::Ranked(k) => {
+            if !books_agree(ledger, placements, singles, multi, settings) {
+                return Finish {
+                    answer: CallAnswer::Refused(18),
+                    sheet: nothing,
+                };
+            }
+            Finish {
+                answer: CallAnswer::Accepted,
+                sheet: sheet_of(state),
+            }
+        }
+    }
+}
