@@ -59,10 +59,12 @@ pub fn order_refusal(
 ) -> u64
     ensures { λ r. ⌜ r ≡ orderRefusal last ordinal mode count (roleNumber first) (roleNumber second) ⌝ }
 {
-    if !in_order(last, ordinal) {
+    let ordered = in_order(last, ordinal);
+    let fits = validate_fragment_roles(mode, count, first, second);
+    if !ordered {
         return 12;
     }
-    if !validate_fragment_roles(mode, count, first, second) {
+    if !fits {
         return 13;
     }
     0

@@ -1,3 +1,5 @@
+-- `ordering::order_refusal` meets its contract: 12, 13, or neither.
+-- Assumes nothing.
 use Rattle.audit_rules.specs.Settings.{roleNumber}
 use mathlib.Core.Path.{sym, _∙_}
 use native.Mathlib.Omega.{arith}
@@ -6,38 +8,29 @@ use Rattle.ordering.proofs.Roles.{twelve, thirteen, in-place}
 use borrow.Author.Needs.{needs}
 use Rattle.ordering.proofs.order_refusal.Statement.{statement}
 use Rattle.ordering.proofs.order_refusal.Tie as tie
-use Rattle.ordering.proofs.order_refusal.Reads as reads
-use Rattle.ordering.proofs.order_refusal.Lts as lts
-use Rattle.ordering.proofs.in_order.Reads as in-order-reads
-use Rattle.ordering.proofs.validate_fragment_roles.Reads as validate-fragment-roles-reads
 
--- src/lib.rt:62:9
 in-order-requires : tie.Need-in-order-requires
 in-order-requires c κs = search needs
 
--- src/lib.rt:63:9
-returns : tie.Need-returns
-returns c =
-    let a = c .before .before .args in
-    twelve (a .last) (a .ordinal) (a .mode) (a .count) (roleNumber (a .first)) (roleNumber (a .second)) (sym (c .before .in-order .ensures) ∙ not-true _ (c .if1 .taken)) (omega arith)
-
--- src/lib.rt:65:9
 validate-fragment-roles-requires : tie.Need-validate-fragment-roles-requires
 validate-fragment-roles-requires c κs = search needs
 
--- src/lib.rt:66:9
+returns : tie.Need-returns
+returns c =
+    let a = c .before .before .before .args in
+    twelve (a .last) (a .ordinal) (a .mode) (a .count) (roleNumber (a .first)) (roleNumber (a .second)) (sym (c .before .before .in-order .ensures) ∙ not-true _ (c .if1 .taken)) (omega arith)
+
 returns-2 : tie.Need-returns-2
 returns-2 c =
     let a = c .before .before .before .before .args in
-    thirteen (a .last) (a .ordinal) (a .mode) (a .count) (roleNumber (a .first)) (roleNumber (a .second)) (sym (c .before .before .before .in-order .ensures) ∙ not-false _ (c .before .before .if1 .left)) (sym (c .before .validate-fragment-roles .ensures) ∙ not-true _ (c .if2 .taken)) (omega arith)
+    thirteen (a .last) (a .ordinal) (a .mode) (a .count) (roleNumber (a .first)) (roleNumber (a .second)) (sym (c .before .before .before .in-order .ensures) ∙ not-false _ (c .before .if1 .left)) (sym (c .before .before .validate-fragment-roles .ensures) ∙ not-true _ (c .if2 .taken)) (omega arith)
 
--- src/lib.rt:52:1
 returns-3 : tie.Need-returns-3
 returns-3 c =
     let a = c .before .before .before .before .args in
-    in-place (a .last) (a .ordinal) (a .mode) (a .count) (roleNumber (a .first)) (roleNumber (a .second)) (sym (c .before .before .before .in-order .ensures) ∙ not-false _ (c .before .before .if1 .left)) (sym (c .before .validate-fragment-roles .ensures) ∙ not-false _ (c .if2 .left)) (omega arith)
+    in-place (a .last) (a .ordinal) (a .mode) (a .count) (roleNumber (a .first)) (roleNumber (a .second)) (sym (c .before .before .before .in-order .ensures) ∙ not-false _ (c .before .if1 .left)) (sym (c .before .before .validate-fragment-roles .ensures) ∙ not-false _ (c .if2 .left)) (omega arith)
 
 pub order-refusal-spec : {M : Type 1} → statement M
 order-refusal-spec =
     tie.close
-    (tie.spec in-order-requires returns validate-fragment-roles-requires returns-2 returns-3)
+    (tie.spec in-order-requires validate-fragment-roles-requires returns returns-2 returns-3)

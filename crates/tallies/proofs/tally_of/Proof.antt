@@ -1,20 +1,15 @@
+-- `tallies::tally_of` meets its contract: a state has one of six numbers.
+-- Assumes nothing.
 use borrow.Author.Needs.{needs}
 use Rattle.tallies.proofs.tally_of.Statement.{statement}
 use Rattle.tallies.proofs.tally_of.Tie as tie
-use Rattle.tallies.proofs.tally_of.Reads as reads
-use Rattle.tallies.proofs.tally_of.Lts as lts
-use Rattle.answers.proofs.answer.state_number.Reads as state-number-reads
-use Rattle.tallies.proofs.role_number.Reads as role-number-reads
 
--- src/lib.rt:37:15
 role-number-requires : tie.Need-role-number-requires
 role-number-requires c κs = search needs
 
--- src/lib.rt:38:16
 state-number-requires : tie.Need-state-number-requires
 state-number-requires c κs = search needs
 
--- src/lib.rt:32:1
 returns : tie.Need-returns
 returns c =
     let a = c .before .before .args in

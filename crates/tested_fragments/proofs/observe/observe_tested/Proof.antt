@@ -1,4 +1,4 @@
--- `tested_fragments::observe_tested` meets its contract: order and roles, the checks of the reads, and what is observed of them.
+-- `tested_fragments::observe::observe_tested` meets its contract: order and roles, the checks of the reads, and what is observed of them.
 -- Assumes nothing.
 use mathlib.Core.Path.{sym, ap, _∙_}
 use mathlib.Core.Bool.{_&&_}
@@ -10,8 +10,8 @@ use Rattle.sighting.specs.Sights.{wayIf}
 use Rattle.tested_fragments.proofs.Joining.{by-order}
 use Rattle.tested_fragments.proofs.Observed.{reads-refused, ranked-lent, reads-observed}
 use borrow.Author.Needs.{needs}
-use Rattle.tested_fragments.proofs.observe_tested.Statement.{statement}
-use Rattle.tested_fragments.proofs.observe_tested.Tie as tie
+use Rattle.tested_fragments.proofs.observe.observe_tested.Statement.{statement}
+use Rattle.tested_fragments.proofs.observe.observe_tested.Tie as tie
 
 order-refusal-requires : tie.Need-order-refusal-requires
 order-refusal-requires c κs = search needs
