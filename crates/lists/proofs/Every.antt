@@ -1,9 +1,9 @@
--- A test of every element, from a place on.
+-- A test of every element: from a place on, at a place, of a joined list.
 -- Assumes nothing.
-use mathlib.Core.Path.{_≡_, refl, ap, _∙_}
-use mathlib.Core.Bool.{Bool, true, false}
+use mathlib.Core.Path.{_≡_, refl, sym, ap, _∙_}
+use mathlib.Core.Bool.{Bool, true, false, _&&_, and-assoc}
 use mathlib.Core.Logic.{inl, inr}
-use mathlib.Core.List.{List, [], _∷_}
+use mathlib.Core.List.{List, [], _∷_, _++_}
 use Prim.Native.Nat.{ℕ, zero, suc, _+_, _<_, _≤_}
 use native.Mathlib.Omega.{arith}
 use native.Mathlib.Numerals.{add-one}
@@ -33,6 +33,10 @@ module _ {A : Type 0} (p : A → Bool) where
   pub every-∈ : (xs : List A) → every p xs ≡ true → (x : A) → x ∈ xs → p x ≡ true
   every-∈ (y ∷ xs) e x (inl k) = ap p k ∙ and-true (p y) (every p xs) e .0
   every-∈ (y ∷ xs) e x (inr m) = every-∈ xs (and-true (p y) (every p xs) e .1) x m
+
+  pub every-append : (xs ys : List A) → every p (xs ++ ys) ≡ (every p xs && every p ys)
+  every-append [] ys = refl
+  every-append (x ∷ xs) ys = rw (every-append xs ys) (sym (and-assoc (p x) (every p xs) (every p ys)))
 
   pub ∈-every : (xs : List A) → ((x : A) → x ∈ xs → p x ≡ true) → every p xs ≡ true
   ∈-every [] f = refl
