@@ -3,16 +3,16 @@
 use mathlib.Core.Path.{_≡_, refl, sym, ap, ap₂, subst, _∙_}
 use mathlib.Core.Bool.{Bool, true, false, not}
 use mathlib.Core.Logic.{inl, inr}
-use mathlib.Core.List.{List, [], _∷_, _++_, map}
-use Prim.Native.Nat.{ℕ, zero, suc, _≤_, _<_}
+use mathlib.Core.List.{List, [], _∷_, map}
+use Prim.Native.Nat.{ℕ, zero, suc, _+_, _≤_, _<_}
 use native.Mathlib.Omega.{arith}
 use lib.ListN.{length, getD, replicate, length-map}
 use lib.Dec.{eqb, leb}
 use borrow.Author.Tests.{eq-eqb, not-true}
 use Rattle.lists.specs.Filter.{every}
 use Rattle.lists.specs.Member.{_∈_, Distinct}
-use Rattle.lists.proofs.Cases.{clash, and-true}
-use Rattle.lists.proofs.Every.{every-∈}
+use Rattle.lists.proofs.Cases.{clash}
+use Rattle.lists.proofs.Every.{every-∈, every-append}
 use Rattle.lists.specs.Triple.{Triple}
 use Rattle.promises.specs.Refusal.{accepted}
 use Rattle.promises.proofs.Refusing.{or-none, outcome-accepted}
@@ -70,18 +70,11 @@ totals-are a b d = λ j. totalsOf (a j) (b j) (d j)
 -- nothing booked
 empty-countable : (n : ℕ) → countable (record { ledger = emptyLedger; counters = emptyCounters n }) ≡ true
 unfolding countable
-empty-countable n = zeros-then n (replicate n 0 ++ replicate n 0) (zeros-then n (replicate n 0) (zeros-then n [] refl))
+empty-countable n = simp (every-append, zeros)
   where
-    small : ℕ → Bool
-    small x = leb x maxCounter
-
-    zeros : (m : ℕ) → every small (replicate m 0) ≡ true
+    zeros : (m : ℕ) → every (λ x. leb x maxCounter) (replicate m 0) ≡ true
     zeros zero = refl
     zeros (suc m) = zeros m
-
-    zeros-then : (m : ℕ) (ns : List ℕ) → every small ns ≡ true → every small (ns ++ replicate m 0) ≡ true
-    zeros-then m [] t = zeros m
-    zeros-then m (x ∷ ns) t = let u = and-true (small x) (every small ns) t in rw (u .0) (zeros-then m ns (u .1))
 
 module _ (q offset : ℕ) (c : Catalogue) (lent : IndexLent) (s : Settings) (k : Counters) (begun : openingRefusal q offset c lent s k ≡ 0) (xs : List Call) where
   abbrev start : Held

@@ -34,10 +34,10 @@ module _ {A : Type 0} (p : A → Bool) where
   every-∈ (y ∷ xs) e x (inl k) = ap p k ∙ and-true (p y) (every p xs) e .0
   every-∈ (y ∷ xs) e x (inr m) = every-∈ xs (and-true (p y) (every p xs) e .1) x m
 
-  pub every-append : (xs ys : List A) → every p (xs ++ ys) ≡ (every p xs && every p ys)
-  every-append [] ys = refl
-  every-append (x ∷ xs) ys = rw (every-append xs ys) (sym (and-assoc (p x) (every p xs) (every p ys)))
-
   pub ∈-every : (xs : List A) → ((x : A) → x ∈ xs → p x ≡ true) → every p xs ≡ true
   ∈-every [] f = refl
   ∈-every (x ∷ xs) f = rw (f x (inl refl)) (∈-every xs (λ y m. f y (inr m)))
+
+  pub every-append : (xs ys : List A) → every p (xs ++ ys) ≡ (every p xs && every p ys)
+  every-append [] ys = refl
+  every-append (x ∷ xs) ys = rw (every-append xs ys) (sym (and-assoc (p x) (every p xs) (every p ys)))
