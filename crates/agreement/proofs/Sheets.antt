@@ -3,19 +3,19 @@
 use mathlib.Core.Path.{_≡_, refl, sym, ap, ap₂, subst, _∙_}
 use mathlib.Core.Bool.{Bool, true, false, not}
 use mathlib.Core.Logic.{inl, inr}
-use mathlib.Core.List.{List, [], _∷_, _++_, map}
+use mathlib.Core.List.{List, [], _∷_, map}
 use Prim.Native.Nat.{ℕ, zero, suc, _+_, _≤_, _<_}
 use native.Mathlib.Omega.{arith}
 use lib.ListN.{length, getD, replicate, length-map}
 use lib.Dec.{eqb, leb}
-use borrow.Author.Tests.{eq-eqb}
+use borrow.Author.Tests.{eq-eqb, not-true}
 use Rattle.lists.specs.Filter.{every}
 use Rattle.lists.specs.Member.{_∈_, Distinct}
-use Rattle.lists.proofs.Cases.{clash, and-true}
-use Rattle.lists.proofs.Every.{every-∈}
+use Rattle.lists.proofs.Cases.{clash}
+use Rattle.lists.proofs.Every.{every-∈, every-append}
 use Rattle.lists.specs.Triple.{Triple}
-use Rattle.promises.specs.Refusal.{_orElse_, accepted}
-use Rattle.promises.proofs.Refusing.{outcome-accepted}
+use Rattle.promises.specs.Refusal.{accepted}
+use Rattle.promises.proofs.Refusing.{or-none, outcome-accepted}
 use Rattle.catalogue.specs.Catalogue.{Catalogue, Target, Valid, targets, isMapped, mapped, suppliedPlaces}
 use Rattle.index.specs.Index.{mappedSequences}
 use Rattle.indexed_mapper.specs.Match.{rankOf}
@@ -53,10 +53,6 @@ shown-roles modes.PairedEnd role (inr (inl e)) = omega arith
 -- a number that differs from each of a list does not stand in it
 not-in : (x : ℕ) (ys : List ℕ) → every (λ y. not (eqb x y)) ys ≡ true → x ∈ ys → ⊥
 not-in x ys t m = clash (eq-eqb x x refl) (not-true (eqb x x) (every-∈ (λ y. not (eqb x y)) ys t x m))
-  where
-    not-true : (b : Bool) → not b ≡ true → b ≡ false
-    not-true true e = sym e
-    not-true false e = refl
 
 distinct-states : (remap : Bool) → Distinct (statesShown remap)
 distinct-states true = (not-in 1 (2 ∷ 3 ∷ 4 ∷ 5 ∷ []) refl, (not-in 2 (3 ∷ 4 ∷ 5 ∷ []) refl, (not-in 3 (4 ∷ 5 ∷ []) refl, (not-in 4 (5 ∷ []) refl, (not-in 5 [] refl, tt)))))
@@ -71,28 +67,14 @@ status-shown statuses.ClosedUnsupported t = refl
 totals-are : {p p′ i i′ m m′ : ℕ} → p ≡ p′ → i ≡ i′ → m ≡ m′ → totalsOf p i m ≡ totalsOf p′ i′ m′
 totals-are a b d = λ j. totalsOf (a j) (b j) (d j)
 
-no-more : (n : ℕ) → (n orElse 0) ≡ n
-no-more zero = refl
-no-more (suc n) = refl
-
-few-states : (remap : Bool) (state : ℕ) → state ∈ statesShown remap → state < 6
-few-states remap state m = shown-few remap state m
-
 -- nothing booked
 empty-countable : (n : ℕ) → countable (record { ledger = emptyLedger; counters = emptyCounters n }) ≡ true
 unfolding countable
-empty-countable n = zeros-then n (replicate n 0 ++ replicate n 0) (zeros-then n (replicate n 0) (zeros-then n [] refl))
+empty-countable n = simp (every-append, zeros)
   where
-    small : ℕ → Bool
-    small x = leb x maxCounter
-
-    zeros : (m : ℕ) → every small (replicate m 0) ≡ true
+    zeros : (m : ℕ) → every (λ x. leb x maxCounter) (replicate m 0) ≡ true
     zeros zero = refl
     zeros (suc m) = zeros m
-
-    zeros-then : (m : ℕ) (ns : List ℕ) → every small ns ≡ true → every small (ns ++ replicate m 0) ≡ true
-    zeros-then m [] t = zeros m
-    zeros-then m (x ∷ ns) t = let u = and-true (small x) (every small ns) t in rw (u .0) (zeros-then m ns (u .1))
 
 module _ (q offset : ℕ) (c : Catalogue) (lent : IndexLent) (s : Settings) (k : Counters) (begun : openingRefusal q offset c lent s k ≡ 0) (xs : List Call) where
   abbrev start : Held
@@ -177,12 +159,12 @@ module _ (q offset : ℕ) (c : Catalogue) (lent : IndexLent) (s : Settings) (k :
   end-balanced : balanced (rolesOf (s .mode)) (statesShown (s .remap)) (booksOf end) ≡ true
   end-balanced =
       counts-balanced (suppliedPlaces c) booked (booksOf end) run-counts end-countable (rolesOf (s .mode)) (statesShown (s .remap))
-      (shown-roles (s .mode)) (distinct-states (s .remap)) (few-states (s .remap)) shown-states end-reads
+      (shown-roles (s .mode)) (distinct-states (s .remap)) (shown-few (s .remap)) shown-states end-reads
 
   -- `finish` makes the opening's checks, and no more can refuse it
   pub finish-opens : (lent′ : IndexLent) → finishRefusal q offset c lent′ end ≡ openingRefusal q offset c lent′ s (end .counters)
   unfolding finishRefusal
-  finish-opens lent′ = rw (settings-end, end-balanced) (no-more (openingRefusal q offset c lent′ s (end .counters)))
+  finish-opens lent′ = rw (settings-end, end-balanced) (or-none (openingRefusal q offset c lent′ s (end .counters)))
 
   -- so it is never refused 18
   pub never-apart : (lent′ : IndexLent) → finishRefusal q offset c lent′ end ≡ 18 → ⊥
@@ -201,5 +183,5 @@ module _ (q offset : ℕ) (c : Catalogue) (lent : IndexLent) (s : Settings) (k :
 
       of-end : role ∈ rolesOf (end .state .settings .mode) → sum (map (λ (x : Triple). x .2) (roleShown (sheetOf end) role)) ≡ readsOf role booked
       of-end i =
-          counted (statesShown (end .state .settings .remap)) (few-states (end .state .settings .remap)) (shown-roles (end .state .settings .mode) role i)
+          counted (statesShown (end .state .settings .remap)) (shown-few (end .state .settings .remap)) (shown-roles (end .state .settings .mode) role i)
           ∙ states-sum role (statesShown (end .state .settings .remap)) (distinct-states (end .state .settings .remap)) booked (λ b i. rw settings-end (shown-states b i))

@@ -23,8 +23,9 @@ use Rattle.candidates.proofs.Candidates.{comparable-fewer}
 use Rattle.index_search.specs.Work.{work, scanWork, Way, byIndex, plain, workBy}
 use Rattle.answers.specs.Bounds.{lengthRight}
 use Rattle.answers.specs.Answer.{stateOf, listed}
+use Rattle.search.proofs.Listed.{none-listed, row-groups, listed-part}
 use Rattle.indexed_mapper.specs.Laws.{turnedGroups}
-use Rattle.indexed_mapper.proofs.Laws.{row-groups, row-work, number-turned, listed-turned}
+use Rattle.indexed_mapper.proofs.Laws.{row-work, number-turned, listed-turned}
 use Rattle.ledger.specs.Booking.{targetsOf}
 use Rattle.audit_rules.specs.declared.settings.Settings.{Settings}
 use Rattle.audit_rules.specs.Observing.{MateRead, verdictRefusal, isEligible, mateRefusal, isSearched, mateListed, mateRow}
@@ -59,9 +60,6 @@ module _ (f : ℕ → ℕ) (ss : List (List ℕ)) (read : List ℕ) where
   groups-ranks = rw length-reverse-complement (from-ranks 0 (length read) ss)
 
 -- ---- a read that is not refused, and neither is it turned round
-
-none-listed : (limit : ℕ) → listed limit [] ≡ []
-none-listed limit = by-test (ltb limit 0) (λ t. rw t) (λ t. rw t)
 
 module _ (offset : ℕ) (s : Settings) where
   -- the verdict on a read that is not refused is no refusal
@@ -98,11 +96,7 @@ module _ (offset : ℕ) (s : Settings) where
 
     -- a listed group is a group of the read
     pub listed-∈ : (m : MateRead) (p : Place) → p ∈ mateListed offset s ss m → p ∈ groups ss (m .read .bases)
-    listed-∈ m p = go (isSearched offset s m) (groups ss (m .read .bases))
-      where
-        go : (b : Bool) (gs : List Place) → p ∈ listed (s .limit) (cond b gs []) → p ∈ gs
-        go true gs = by-test (ltb (s .limit) (length gs)) (λ l. rw l (λ k. absurd k)) (λ l. rw l (λ k. k))
-        go false gs = rw (none-listed (s .limit)) (λ k. absurd k)
+    listed-∈ m p = listed-part (s .limit) p (isSearched offset s m) (groups ss (m .read .bases))
 
     -- one read in two ways
     pub state-same : (way way′ : Way) (m : MateRead) → mateRow offset s ss way m .state ≡ mateRow offset s ss way′ m .state

@@ -9,7 +9,8 @@ use lib.ListN.{length, getD, take, drop, length-take, length-drop}
 use lib.Seq.{getD-take, getD-drop, drop-drop}
 use Rattle.lists.specs.Filter.{filter}
 use Rattle.lists.specs.Limit.{goOn, stopped}
-use Rattle.lists.proofs.First.{First, first-kept, first-stopped, none-kept, none-stopped}
+use Rattle.lists.proofs.Filter.{filter-none}
+use Rattle.lists.proofs.First.{First, first-kept, first-stopped, none-stopped}
 use Rattle.lists.proofs.Places.{getD-map, drop-take}
 use Rattle.columns.specs.Posting.{Posting}
 use Rattle.columns.proofs.Rows.{none}
@@ -72,7 +73,7 @@ module _ (ss : List (List ℕ)) (n o : ℕ) (ps : List Posting) where
 
       -- none lies, and every posting is examined
       pub nothing-kept : filter (lies ss n o) (ahead ps next end) ≡ []
-      nothing-kept = none-kept (lies ss n o) none (ahead ps next end) none-ahead
+      nothing-kept = filter-none (lies ss n o) none (ahead ps next end) none-ahead
 
       pub all-examined : (m : ℕ) → length (stopped (lies ss n o) (ahead ps next end) m) ≡ end - next
       all-examined m = ap length (none-stopped (lies ss n o) none (ahead ps next end) m none-ahead) ∙ length-ahead

@@ -1,6 +1,6 @@
 -- The mapped targets of a catalogue: their ranks, and that the order of supply changes nothing but places.
 -- Assumes nothing.
-use mathlib.Core.Path.{_≡_, sym, ap, ap₂, _∙_}
+use mathlib.Core.Path.{_≡_, refl, sym, ap, ap₂, _∙_}
 use mathlib.Core.Bool.{true, not}
 use mathlib.Core.Logic.{_⊎_, inl, inr}
 use mathlib.Core.List.{List, [], _∷_, map}
@@ -36,6 +36,13 @@ target p n m s = record { place = p; identifier = n; mark = m; bases = s }
 -- the j-th target of those from place k on
 abbrev pub targetAt : ℕ → List (List ℕ) → List (List ℕ) → List ℕ → ℕ → Target
 targetAt k ns ss ms j = target (k + j) (getD ns j []) (getD ms j 0) (getD ss j [])
+
+-- as many targets as marks, where there are as many names and sequences
+targets-count : (k : ℕ) (ns ss : List (List ℕ)) (ms : List ℕ) → length ss ≡ length ns → length ms ≡ length ns → length (targetsFrom k ns ss ms) ≡ length ms
+targets-count k [] ss ms e f = sym f
+targets-count k (n ∷ ns) [] ms e f = absurd (omega arith)
+targets-count k (n ∷ ns) (s ∷ ss) [] e f = refl
+targets-count k (n ∷ ns) (s ∷ ss) (m ∷ ms) e f = ap suc (targets-count (suc k) ns ss ms (omega arith) (omega arith))
 
 targets-∈ : (k : ℕ) (ns ss : List (List ℕ)) (ms : List ℕ) (t : Target) → t ∈ targetsFrom k ns ss ms → (j : ℕ) × (j < length ns) × (t ≡ targetAt k ns ss ms j)
 targets-∈ k (n ∷ ns) (s ∷ ss) (m ∷ ms) t (inl e) =
@@ -111,11 +118,14 @@ module _ (c : Catalogue) where
     name-count : length (names c) ≡ length (c .identifierEnds)
     name-count = length-cut 0 (c .identifierEnds) (c .identifiers)
 
-    sequence-count : length (sequences c) ≡ length (names c)
+    pub sequence-count : length (sequences c) ≡ length (names c)
     sequence-count = length-cut 0 (c .baseEnds) (c .bases) ∙ bounded c within .sequenced ∙ sym name-count
 
-    mark-count : length (c .marks) ≡ length (names c)
+    pub mark-count : length (c .marks) ≡ length (names c)
     mark-count = bounded c within .marked ∙ sym name-count
+
+    pub target-count : length (targets c) ≡ length (c .marks)
+    target-count = targets-count 0 (names c) (sequences c) (c .marks) sequence-count mark-count
 
     -- a target's place is one of the catalogue's, and has its sequence
     pub at-its-place : (t : Target) → t ∈ targets c → (t .place < length (c .baseEnds)) × (t .bases ≡ getD (sequences c) (t .place) [])

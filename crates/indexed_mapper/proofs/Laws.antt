@@ -32,6 +32,7 @@ use Rattle.scan.proofs.Going.{length-entries}
 use Rattle.index_search.specs.Work.{work, scanWork, Way, byIndex, plain, workBy}
 use Rattle.answers.specs.Answer.{Row, answerOf, stateOf, listed, mappedRow, roomRefusal}
 use Rattle.search.specs.Answered.{SearchAnswered}
+use Rattle.search.proofs.Listed.{row-groups}
 use Rattle.index_search.specs.declared.work.MappingWork.{MappingWork}
 use Rattle.answers.specs.declared.answer.MapAnswer.{MapAnswer}
 use Rattle.indexed_mapper.specs.Map.{readRefusal, rankedRefusal, mapRefusal, MapsTo}
@@ -62,10 +63,7 @@ module _ (limit : ℕ) (gs : List Place) (w : MappingWork) where
   pub row-number : (mappedRow limit gs w .state ≡ 2 → ⊥) → mappedRow limit gs w .state ≡ stateOf (mappedRow limit gs w .groups)
   row-number ne = rw (few ne)
 
-  -- the number of groups is that of the listed ones, and the work is that of the search
-  pub row-groups : mappedRow limit gs w .groups ≡ length (listed limit gs)
-  row-groups = by-test (ltb limit (length gs)) (λ t. rw t) (λ t. rw t)
-
+  -- the work is that of the search
   pub row-work : mappedRow limit gs w .work ≡ w
   row-work = by-test (ltb limit (length gs)) (λ t. rw t) (λ t. rw t)
 

@@ -1,7 +1,7 @@
 -- Books that grew by some reads: by none, by one, by reads in two parts, by all that were booked.
 -- Assumes nothing.
 use mathlib.Core.Path.{_≡_, refl, sym, ap, _∙_}
-use mathlib.Core.Bool.{Bool, true, false, _&&_, _||_}
+use mathlib.Core.Bool.{Bool, true, false, _&&_, _||_, or-assoc}
 use mathlib.Core.Logic.{inl, inr}
 use mathlib.Core.List.{List, [], _∷_, _++_, append-nil, append-assoc}
 use Prim.Native.Nat.{ℕ, _+_, _<_}
@@ -147,10 +147,6 @@ module _ (ranked : List ℕ) (bs ds : List Booked) (books between after : Books)
             ∙ or-assoc (books .ledger .indeterminate) (anyIndeterminate bs) (anyIndeterminate ds)
             ∙ ap (λ t. books .ledger .indeterminate || t) (sym (indeterminate-append bs ds));
       }
-    where
-      or-assoc : (x y z : Bool) → ((x || y) || z) ≡ (x || (y || z))
-      or-assoc true y z = refl
-      or-assoc false y z = refl
 
 -- ---- by all
 

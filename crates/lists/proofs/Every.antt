@@ -1,9 +1,9 @@
--- A test of every element, from a place on.
+-- A test of every element: from a place on, at a place, of a joined list.
 -- Assumes nothing.
-use mathlib.Core.Path.{_≡_, refl, ap, _∙_}
-use mathlib.Core.Bool.{Bool, true, false}
+use mathlib.Core.Path.{_≡_, refl, sym, ap, _∙_}
+use mathlib.Core.Bool.{Bool, true, false, _&&_, and-assoc}
 use mathlib.Core.Logic.{inl, inr}
-use mathlib.Core.List.{List, [], _∷_}
+use mathlib.Core.List.{List, [], _∷_, _++_}
 use Prim.Native.Nat.{ℕ, zero, suc, _+_, _<_, _≤_}
 use native.Mathlib.Omega.{arith}
 use native.Mathlib.Numerals.{add-one}
@@ -37,3 +37,7 @@ module _ {A : Type 0} (p : A → Bool) where
   pub ∈-every : (xs : List A) → ((x : A) → x ∈ xs → p x ≡ true) → every p xs ≡ true
   ∈-every [] f = refl
   ∈-every (x ∷ xs) f = rw (f x (inl refl)) (∈-every xs (λ y m. f y (inr m)))
+
+  pub every-append : (xs ys : List A) → every p (xs ++ ys) ≡ (every p xs && every p ys)
+  every-append [] ys = refl
+  every-append (x ∷ xs) ys = rw (every-append xs ys) (sym (and-assoc (p x) (every p xs) (every p ys)))

@@ -36,7 +36,7 @@ module _ {A : Type 0} (p : A → Bool) where
   length-filter [] = omega arith
   length-filter (x ∷ xs) = let e = length-filter xs in by-test (p x) (λ f. rw f (omega arith)) (λ f. rw f (omega arith))
 
-  filter-none : (d : A) (xs : List A) → ((i : ℕ) → i < length xs → p (getD xs i d) ≡ false) → filter p xs ≡ []
+  pub filter-none : (d : A) (xs : List A) → ((i : ℕ) → i < length xs → p (getD xs i d) ≡ false) → filter p xs ≡ []
   filter-none d [] h = refl
   filter-none d (x ∷ xs) h = rw (h 0 (omega arith)) (filter-none d xs (λ i k. h (suc i) (omega arith)))
 

@@ -32,10 +32,6 @@ module _ {A : Type 0} (p : A → Bool) (d : A) where
   first-stopped (x ∷ xs) (suc k) n f = let e = f .failing 0 (omega arith) in let s = first-stopped xs k n (first-rest x xs k f) in rw e (omega (arith, s))
 
   -- no element passes
-  pub none-kept : (xs : List A) → ((i : ℕ) → i < length xs → p (getD xs i d) ≡ false) → filter p xs ≡ []
-  none-kept [] h = refl
-  none-kept (x ∷ xs) h = rw (h 0 (omega arith)) (none-kept xs (λ i l. h (suc i) (omega arith)))
-
   pub none-stopped : (xs : List A) (n : ℕ) → ((i : ℕ) → i < length xs → p (getD xs i d) ≡ false) → stopped p xs n ≡ xs
   none-stopped [] n h = refl
   none-stopped (x ∷ xs) n h = rw (h 0 (omega arith)) (ap (λ (l : List A). x ∷ l) (none-stopped xs n (λ i l. h (suc i) (omega arith))))

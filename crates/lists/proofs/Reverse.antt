@@ -1,7 +1,7 @@
 -- Reversed lists: by their places, mapped, and tested.
 -- Assumes nothing.
 use mathlib.Core.Path.{_≡_, refl, sym, ap, _∙_}
-use mathlib.Core.Bool.{Bool, true, false, _&&_}
+use mathlib.Core.Bool.{Bool, and-true, and-comm}
 use mathlib.Core.Logic.{_⊎_, inl, inr}
 use mathlib.Core.List.{List, [], _∷_, _++_, map, reverse, reverseAux, reverse-cons}
 use Prim.Native.Nat.{ℕ, suc, _-_, _<_}
@@ -10,6 +10,7 @@ use lib.ListN.{length, getD, length-reverse, List·getD-append}
 use lib.Seq.{getD-at}
 use Rattle.lists.specs.Filter.{every}
 use Rattle.lists.proofs.Cases.{compare}
+use Rattle.lists.proofs.Every.{every-append}
 
 pub getD-reverse : {A : Type 0} (d : A) (l : List A) (i : ℕ) → i < length l → getD (reverse l) i d ≡ getD l (length l - suc i) d
 getD-reverse d [] i h = absurd (omega arith)
@@ -31,25 +32,6 @@ map-reverse {A} {B} f xs = go xs []
     go [] r = refl
     go (x ∷ l) r = go l (x ∷ r)
 
-and-comm : (b d : Bool) → (b && d) ≡ (d && b)
-and-comm true true = refl
-and-comm true false = refl
-and-comm false true = refl
-and-comm false false = refl
-
-module _ {A : Type 0} (p : A → Bool) where
-  every-append : (xs ys : List A) → every p (xs ++ ys) ≡ (every p xs && every p ys)
-  every-append [] ys = refl
-  every-append (x ∷ xs) ys = rw (every-append xs ys) (go (p x))
-    where
-      go : (b : Bool) → (b && (every p xs && every p ys)) ≡ ((b && every p xs) && every p ys)
-      go true = refl
-      go false = refl
-
-  pub every-reverse : (xs : List A) → every p (reverse xs) ≡ every p xs
-  every-reverse [] = refl
-  every-reverse (x ∷ xs) = rw (reverse-cons, every-append, every-reverse xs) (and-comm (every p xs) (p x && true) ∙ go (p x))
-    where
-      go : (b : Bool) → ((b && true) && every p xs) ≡ (b && every p xs)
-      go true = refl
-      go false = refl
+pub every-reverse : {A : Type 0} (p : A → Bool) (xs : List A) → every p (reverse xs) ≡ every p xs
+every-reverse p [] = refl
+every-reverse p (x ∷ xs) = rw (reverse-cons, every-append, every-reverse p xs, and-true) (and-comm (every p xs) (p x))

@@ -1,7 +1,7 @@
 -- The test of two lists says that they are equal.
 -- Assumes nothing.
 use mathlib.Core.Path.{_≡_, refl, sym, ap₂}
-use mathlib.Core.Bool.{Bool, true, false, _&&_}
+use mathlib.Core.Bool.{Bool, true, false, _&&_, and-true as and-rest, and-assoc}
 use mathlib.Core.List.{List, [], _∷_}
 use Prim.Native.Nat.{ℕ, zero, suc, _<_, _≤_}
 use native.Mathlib.Omega.{arith}
@@ -33,15 +33,7 @@ pub same-next : (xs ys : List ℕ) (i : ℕ) → i < length xs → i < length ys
 same-next [] ys i hx hy = absurd (omega arith)
 same-next (x ∷ xs) [] i hx hy = absurd (omega arith)
 same-next (x ∷ xs) (y ∷ ys) zero hx hy = and-rest (eqb x y)
-  where
-    and-rest : (b : Bool) → (b && true) ≡ b
-    and-rest true = refl
-    and-rest false = refl
-same-next (x ∷ xs) (y ∷ ys) (suc i) hx hy = rw (same-next xs ys i (omega arith) (omega arith)) (joined (eqb x y) (same (take i xs) (take i ys)) (eqb (getD xs i 0) (getD ys i 0)))
-  where
-    joined : (b d e : Bool) → (b && (d && e)) ≡ ((b && d) && e)
-    joined true d e = refl
-    joined false d e = refl
+same-next (x ∷ xs) (y ∷ ys) (suc i) hx hy = rw (same-next xs ys i (omega arith) (omega arith)) (sym (and-assoc (eqb x y) (same (take i xs) (take i ys)) (eqb (getD xs i 0) (getD ys i 0))))
 
 -- a difference among the first i is one among the first j
 pub differ-next : (xs ys : List ℕ) (i j : ℕ) → i ≤ j → same (take i xs) (take i ys) ≡ false → same (take j xs) (take j ys) ≡ false

@@ -3,7 +3,7 @@
 use mathlib.Core.Path.{_≡_, refl, sym, ap, ap₂, _∙_}
 use mathlib.Core.Bool.{Bool}
 use mathlib.Core.List.{List, [], _∷_, map}
-use Prim.Native.Nat.{ℕ, zero, suc, _+_, _*_, _/_, _≤_}
+use Prim.Native.Nat.{ℕ, suc, _+_, _*_, _/_, _≤_}
 use native.Mathlib.Omega.{arith}
 use lib.ListN.{length, take, drop}
 use lib.Dec.{ltb}
@@ -12,8 +12,8 @@ use denote.Enum.Declared.{tagOf}
 use Rattle.lists.specs.Cut.{window}
 use Rattle.lists.proofs.Cut.{length-window}
 use Rattle.lists.proofs.Cases.{by-test}
-use Rattle.promises.specs.Refusal.{_orElse_, accepted, outcome}
-use Rattle.promises.proofs.Refusing.{outcome-accepted, outcome-number}
+use Rattle.promises.specs.Refusal.{accepted, outcome}
+use Rattle.promises.proofs.Refusing.{or-none, outcome-accepted, outcome-number}
 use Rattle.seeds.specs.Seeds.{placed}
 use Rattle.seeds.proofs.Placed.{placed-behind}
 use Rattle.scan.specs.Entries.{entryCount, cleared}
@@ -59,10 +59,6 @@ both-within m n share e k = omega (arith, shares-within m n k)
 
 -- ---- one or two reads by mode
 
-or-none : (n : ℕ) → n ≡ (n orElse 0)
-or-none zero = refl
-or-none (suc n) = refl
-
 -- a refusal for room is 10
 ten : (entries limit matched : ℕ) → (roomRefusal entries limit matched ≡ 0 → ⊥) → roomRefusal entries limit matched ≡ 10
 ten entries limit matched ne =
@@ -78,7 +74,7 @@ module _ {A : Type 0} (f : A → ℕ) (x y : A) where
 
   -- without one there is the second, if any
   second-of-mode : (m : AuditInputMode) → m ≡ modes.PairedEnd → f x ≡ 0 → firstOf f (byMode m x y) ≡ f y
-  second-of-mode m k e = rw (k, e) (sym (or-none (f y)))
+  second-of-mode m k e = rw (k, e) (or-none (f y))
 
   none-of-mode : (m : AuditInputMode) → m ≡ modes.SingleEnd → f x ≡ 0 → firstOf f (byMode m x y) ≡ 0
   none-of-mode m k e = rw (k, e)

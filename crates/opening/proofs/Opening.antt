@@ -2,22 +2,21 @@
 -- Assumes nothing.
 use mathlib.Core.Path.{_≡_, refl, sym, ap, _∙_}
 use mathlib.Core.Bool.{Bool, true, false, not, _&&_, _||_}
-use mathlib.Core.List.{List, [], _∷_}
+use mathlib.Core.List.{List}
 use Prim.Native.Nat.{ℕ, zero, suc, _-_, _≤_, _<_}
 use native.Mathlib.Omega.{arith}
 use lib.ListN.{length, take}
 use lib.Dec.{eqb}
 use borrow.Author.Tests.{lt-leb, le-leb, eq-eqb, ne-eqb, eqb-true, not-true, not-false}
 use Rattle.lists.proofs.Cases.{by-test, and-true}
-use Rattle.lists.proofs.Cut.{length-cut}
 use Rattle.promises.specs.Refusal.{unless, _orElse_, outcome}
 use Rattle.promises.proofs.Refusing.{first-stands, outcome-refused}
 use Rattle.bases.specs.Eligibility.{lastQuality}
-use Rattle.catalogue.specs.Catalogue.{Catalogue, names, sequences, targetsFrom, targets, mapped, inBounds, catalogueRefusal}
+use Rattle.catalogue.specs.Catalogue.{Catalogue, mapped, inBounds, catalogueRefusal}
 use Rattle.catalogue.specs.Ranking.{rankingOutcome}
 use Rattle.catalogue.specs.declared.ranks.Ranking.{Ranking}
 use Rattle.catalogue.specs.declared.ranks.Ranking.the-variants.{Refused, Ranked}
-use Rattle.catalogue.proofs.Checks.{bounded}
+use Rattle.catalogue.proofs.Mapped.{target-count}
 use Rattle.catalogue.proofs.Refusals.{refused-ranked}
 use Rattle.seeds.specs.Key.{SeedLength}
 use Rattle.index.specs.Index.{rankedSequences, mappedSequences, planRefusal}
@@ -63,21 +62,6 @@ module _ (n : ℕ) (k : Counters) where
       let u = and-true (eqb (length (k .placements)) n && eqb (length (k .singles)) n) (eqb (length (k .multi)) n) t in
       let v = and-true (eqb (length (k .placements)) n) (eqb (length (k .singles)) n) (u .0) in
       (eqb-true (length (k .placements)) n (v .0), eqb-true (length (k .singles)) n (v .1), eqb-true (length (k .multi)) n (u .1))
-
--- as many targets as marks, where there are as many names and sequences
-targets-count : (k : ℕ) (ns ss : List (List ℕ)) (ms : List ℕ) → length ss ≡ length ns → length ms ≡ length ns → length (targetsFrom k ns ss ms) ≡ length ms
-targets-count k [] ss ms e f = sym f
-targets-count k (n ∷ ns) [] ms e f = absurd (omega arith)
-targets-count k (n ∷ ns) (s ∷ ss) [] e f = refl
-targets-count k (n ∷ ns) (s ∷ ss) (m ∷ ms) e f = ap suc (targets-count (suc k) ns ss ms (omega arith) (omega arith))
-
--- a catalogue within its bounds has a target for each mark
-pub target-count : (c : Catalogue) → inBounds c ≡ true → length (targets c) ≡ length (c .marks)
-target-count c within =
-    let b = bounded c within in
-    let n = length-cut 0 (c .identifierEnds) (c .identifiers) in
-    let s = length-cut 0 (c .baseEnds) (c .bases) in
-    targets-count 0 (names c) (sequences c) (c .marks) (omega (arith, b .sequenced)) (omega (arith, b .marked))
 
 -- where 2 follows, the test before it does not tell
 two-follows : (a b : Bool) → (unless a 2 orElse 2) ≡ (unless b 2 orElse 2)

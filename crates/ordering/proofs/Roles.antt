@@ -1,29 +1,16 @@
 -- The roles of a fragment's reads, by mode and number.
 -- Assumes nothing.
 use mathlib.Core.Path.{_≡_, refl, sym, ap, _∙_}
-use mathlib.Core.Bool.{Bool, true, false, _&&_}
-use mathlib.Core.List.{List, [], _∷_}
+use mathlib.Core.Bool.{true, false, _&&_, and-true, and-false}
 use Prim.Native.Nat.{ℕ, zero, suc}
-use native.Mathlib.Omega.{arith}
-use lib.ListN.{replicate}
 use lib.Dec.{eqb}
 use borrow.Author.Tests.{ne-eqb, eq-eqb}
-use Rattle.lists.specs.Same.{same}
-use Rattle.promises.specs.Refusal.{unless, _orElse_}
 use Rattle.audit_rules.specs.declared.settings.AuditInputMode.{AuditInputMode}
 use Rattle.audit_rules.specs.declared.settings.AuditInputMode.the-variants as modes
 use Rattle.audit_rules.specs.declared.settings.LastOrdinal.{LastOrdinal}
 use Rattle.audit_rules.specs.declared.settings.LastOrdinal.the-variants as ordinals
 use Rattle.audit_rules.specs.Fragment.{inOrder}
 use Rattle.ordering.specs.Order.{rolesFit, orderRefusal}
-
-no-more : (b : Bool) → false ≡ (b && false)
-no-more true = refl
-no-more false = refl
-
-all : (b : Bool) → b ≡ (b && true)
-all true = refl
-all false = refl
 
 module _ (mode : AuditInputMode) (count first second : ℕ) where
   -- one read, with the role S
@@ -33,10 +20,10 @@ module _ (mode : AuditInputMode) (count first second : ℕ) where
       go : (n : ℕ) → (n ≡ 1 → ⊥) → false ≡ rolesFit modes.SingleEnd n first second
       go zero h = refl
       go (suc zero) h = absurd (h refl)
-      go (suc (suc n)) h = no-more (eqb first 0)
+      go (suc (suc n)) h = sym (and-false (eqb first 0))
 
   pub one-read : mode ≡ modes.SingleEnd → count ≡ 1 → (a : ℕ) → a ≡ first → eqb a 0 ≡ rolesFit mode count first second
-  one-read e f a g = rw (e, f, g) (all (eqb first 0))
+  one-read e f a g = rw (e, f, g) (sym (and-true (eqb first 0)))
 
   -- two reads, R1 and then R2
   pub not-two : mode ≡ modes.PairedEnd → (count ≡ 2 → ⊥) → false ≡ rolesFit mode count first second
@@ -44,15 +31,15 @@ module _ (mode : AuditInputMode) (count first second : ℕ) where
     where
       go : (n : ℕ) → (n ≡ 2 → ⊥) → false ≡ rolesFit modes.PairedEnd n first second
       go zero h = refl
-      go (suc zero) h = no-more (eqb first 1)
+      go (suc zero) h = sym (and-false (eqb first 1))
       go (suc (suc zero)) h = absurd (h refl)
-      go (suc (suc (suc n))) h = no-more (eqb first 1) ∙ ap (λ b. eqb first 1 && b) (no-more (eqb second 2))
+      go (suc (suc (suc n))) h = rw (and-false, and-false)
 
   pub not-first : mode ≡ modes.PairedEnd → (a : ℕ) → a ≡ first → (a ≡ 1 → ⊥) → count ≡ 2 → false ≡ rolesFit mode count first second
   not-first e a g ne f = rw (e, f) (sym (ap (λ b. b && (eqb second 2 && true)) (ne-eqb first 1 (λ h. ne (g ∙ h)))))
 
   pub two-reads : mode ≡ modes.PairedEnd → count ≡ 2 → (a : ℕ) → a ≡ first → a ≡ 1 → (b : ℕ) → b ≡ second → eqb b 2 ≡ rolesFit mode count first second
-  two-reads e f a g h b i = rw (e, f, i) (all (eqb second 2) ∙ sym (ap (λ t. t && (eqb second 2 && true)) (eq-eqb first 1 (sym g ∙ h))))
+  two-reads e f a g h b i = rw (e, f, i) (sym (and-true (eqb second 2)) ∙ sym (ap (λ t. t && (eqb second 2 && true)) (eq-eqb first 1 (sym g ∙ h))))
 
 module _ (last : LastOrdinal) (ordinal : ℕ) (mode : AuditInputMode) (count first second : ℕ) where
   pub twelve : inOrder last ordinal ≡ false → {n : ℕ} → n ≡ 12 → n ≡ orderRefusal last ordinal mode count first second

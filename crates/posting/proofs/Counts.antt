@@ -1,7 +1,7 @@
 -- Counts of which one is raised, tested one after the other.
 -- Assumes nothing.
 use mathlib.Core.Path.{_≡_, refl, sym, _∙_}
-use mathlib.Core.Bool.{Bool, true, false, not, _&&_}
+use mathlib.Core.Bool.{Bool, true, false, not, and-true}
 use mathlib.Core.List.{List, [], _∷_}
 use Prim.Native.Nat.{ℕ, suc, _+_, _<_, _≤_}
 use native.Mathlib.Omega.{arith}
@@ -16,11 +16,7 @@ use Rattle.raising.specs.Targets.{raisedIf, small}
 
 -- one count has 64 bits
 pub small-one : (n : ℕ) → small (n ∷ []) ≡ leb n maxCounter
-small-one n = go (leb n maxCounter)
-  where
-    go : (b : Bool) → (b && true) ≡ b
-    go true = refl
-    go false = refl
+small-one n = and-true (leb n maxCounter)
 
 module _ (count : ℕ) (here : Bool) where
   pub count-raised : (r : Bool) → here ≡ true → (r ≡ true → count < maxCounter) → (count < maxCounter → r ≡ true) → r ≡ small (raisedIf here 0 (count ∷ []))

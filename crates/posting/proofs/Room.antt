@@ -1,7 +1,7 @@
 -- A ledger with room for a read, and what a read adds to the totals.
 -- Assumes nothing.
 use mathlib.Core.Path.{_≡_, refl, sym, _∙_}
-use mathlib.Core.Bool.{Bool, true, false, not, _&&_, _||_}
+use mathlib.Core.Bool.{Bool, true, false, _&&_, _||_, or-false}
 use mathlib.Core.List.{List, [], _∷_}
 use Prim.Native.Nat.{ℕ, suc, _+_, _<_, _≤_}
 use native.Mathlib.Omega.{arith}
@@ -70,11 +70,7 @@ module _ (b : Bool) (state : ℕ) where
       go false = sym (eq-eqb state 2 e)
 
   pub as-before : (state ≡ 2 → ⊥) → b ≡ (b || eqb state 2)
-  as-before h = rw (ne-eqb state 2 h) (go b)
-    where
-      go : (d : Bool) → d ≡ (d || false)
-      go true = refl
-      go false = refl
+  as-before h = rw (ne-eqb state 2 h) (sym (or-false b))
 
 module _ (role state : ℕ) (a : Added) (l : Ledger) where
   -- its numbers, each for itself

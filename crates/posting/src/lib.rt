@@ -9,7 +9,7 @@ ghost use Rattle.ledger.specs.Booking.{raised, cell};
 ghost use Rattle.raising.specs.Targets.{targetsIn, raisedIf, small};
 ghost use Rattle.posting.specs.Posting.{addedTo, ledgerRaised, ledgerSmall, LedgerPosted};
 use ledger::Ledger;
-use raising::MAX_COUNTER;
+use ledger::MAX_COUNTER;
 use raising::count_runs;
 
 // What a read adds to the totals.

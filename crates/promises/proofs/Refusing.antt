@@ -1,10 +1,10 @@
 -- Chains of refusals, and the outcomes that they give.
 -- Assumes nothing.
-use mathlib.Core.Path.{_≡_, refl, sym, ap, _∙_}
+use mathlib.Core.Path.{_≡_, refl}
 use mathlib.Core.Bool.{Bool, true, false}
 use Prim.Native.Nat.{ℕ, zero, suc}
 use native.Mathlib.Omega.{arith}
-use Rattle.promises.specs.Refusal.{unless, _orElse_, Outcome, refused, accepted, numberOf, outcome}
+use Rattle.promises.specs.Refusal.{unless, _orElse_, refused, accepted, numberOf, outcome}
 
 -- a refusal stands in front of all that follow it
 pub first-stands : (n m : ℕ) → (n ≡ 0 → ⊥) → n ≡ (n orElse m)
@@ -19,6 +19,11 @@ none-first (suc n) m e = e
 pub none-second : (n m : ℕ) → (n orElse m) ≡ 0 → m ≡ 0
 none-second zero m e = e
 none-second (suc n) m e = absurd (omega arith)
+
+-- a chain with nothing behind it
+pub or-none : (n : ℕ) → (n orElse 0) ≡ n
+or-none zero = refl
+or-none (suc n) = refl
 
 -- a test that does not refuse has passed
 pub passed : (t : Bool) (n : ℕ) → (n ≡ 0 → ⊥) → unless t n ≡ 0 → t ≡ true

@@ -5,9 +5,7 @@ ghost use lib.ListN.{length, getD};
 ghost use Rattle.promises.specs.Slice.{old, new};
 ghost use Rattle.ledger.specs.Booking.{raisedAt};
 ghost use Rattle.raising.specs.Targets.{targetsIn, runEnds, countsAt, raisedIf, chosen, sums, small, RaisableAt, Raisable, Fittable};
-
-// The largest count.
-pub const MAX_COUNTER: u64 = 18446744073709551615;
+use ledger::MAX_COUNTER;
 
 // Whether entry i is one that counts: each is, or the last of each run of one target.
 fn counts(entries: &[u64], n: usize, i: usize, each: bool) -> bool

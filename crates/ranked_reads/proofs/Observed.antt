@@ -1,30 +1,30 @@
 -- The reads of a checked fragment observed: their rows and entries, what is posted of them, and refusal 17.
 -- Assumes nothing.
 use mathlib.Core.Path.{_≡_, refl, sym, ap, subst, _∙_}
-use mathlib.Core.Bool.{Bool, true, false, cond, _&&_, true≢false}
+use mathlib.Core.Bool.{Bool, true, false, true≢false}
 use mathlib.Core.List.{List, [], _∷_, map, head-eq-of-cons-eq, tail-eq-of-cons-eq}
-use Prim.Native.Nat.{ℕ, zero, suc, _+_, _*_, _≤_, _<_, _/_}
+use Prim.Native.Nat.{ℕ, suc, _+_, _*_, _≤_, _<_, _/_}
 use native.Mathlib.Omega.{arith}
 use native.Mathlib.Nat.{mul-suc}
 use lib.ListN.{length, getD, drop, length-map}
 use Rattle.lists.specs.Cut.{window, cut}
-use Rattle.lists.proofs.Cases.{by-test, clash}
-use Rattle.promises.specs.Refusal.{unless, _orElse_, Outcome, refused, accepted, outcome}
-use Rattle.promises.proofs.Refusing.{none-first, none-second, outcome-accepted, outcome-number}
+use Rattle.lists.proofs.Cases.{clash}
+use Rattle.promises.specs.Refusal.{_orElse_, outcome}
+use Rattle.promises.proofs.Refusing.{first-stands, none-first, none-second, outcome-accepted, outcome-number}
 use Rattle.seeds.specs.Seeds.{placed}
 use Rattle.scan.specs.Entries.{entryCount, cleared}
 use Rattle.index_search.specs.Work.{Way}
-use Rattle.answers.specs.Answer.{Row, stateNumber}
+use Rattle.answers.specs.Answer.{stateNumber}
 use Rattle.answers.specs.Bounds.{limitRight}
 use Rattle.answers.specs.declared.answer.ReadState.{ReadState}
 use Rattle.answers.specs.declared.answer.ReadState.the-variants as states
 use Rattle.answers.specs.declared.answer.Mapping.{Mapping}
 use Rattle.answers.proofs.Concluding.{length-cleared}
-use Rattle.ledger.specs.Booking.{Booked, Counters, Books, bookedAll, countable}
+use Rattle.ledger.specs.Booking.{Counters, Books, bookedAll, countable}
 use Rattle.ledger.specs.Counting.{Ranked}
 use Rattle.ledger.specs.declared.Ledger.{Ledger}
 use Rattle.posting.specs.declared.Posted.{Posted}
-use Rattle.booking.specs.Books.{Posting, postedAll, booksSmall, CountersFor, Postable, FragmentPostable}
+use Rattle.booking.specs.Books.{postedAll, booksSmall, CountersFor, Postable, FragmentPostable}
 use Rattle.audit_rules.specs.declared.calls.FragmentAnswer.{FragmentAnswer}
 use Rattle.audit_rules.specs.declared.calls.FragmentAnswer.the-variants as fragments
 use Rattle.audit_rules.specs.declared.calls.Mates.{Mates}
@@ -242,17 +242,13 @@ module _ (s : Settings) (ss : List (List ℕ)) (way : Way) (ranked : List ℕ) (
         fitting : r′ .fits ≡ true → refusal ≡ rooms
         fitting f = go r refl posted
           where
-            behind : (m x : ℕ) → (m ≡ 0 → ⊥) → (m orElse x) ≡ m
-            behind zero x ne = absurd (ne refl)
-            behind (suc m) x ne = refl
-
             counted : ((m : ℕ) → r ≡ fragments.Refused m → ⊥) → booksSmall (postedAll (answerPostings r first second (4 * shareOf (s .mode) P) entries) (books l)) ≡ true → refusal ≡ rooms
             counted ne z = rw (accepted-room ne, fits-countable l ne, z)
 
             go : (a : FragmentAnswer) → r ≡ a → AnswerPosted a first second (4 * shareOf (s .mode) P) entries (books l) r′ → refusal ≡ rooms
             go (fragments.Refused m) e p =
                 let o = outcome-number rooms m _ (sym (seen .answer) ∙ ap fragmentOutcome e) in
-                behind rooms _ (λ z. o .1 (sym (o .0) ∙ z))
+                sym (first-stands rooms _ (λ z. o .1 (sym (o .0) ∙ z)))
             go (fragments.Single m) e p = counted (λ n g. true≢false (sym (ap isRefused (sym e ∙ g)))) (ap (λ a. booksSmall (postedAll (answerPostings a first second (4 * shareOf (s .mode) P) entries) (books l))) e ∙ sym (p .fits) ∙ f)
             go (fragments.Paired m) e p = counted (λ n g. true≢false (sym (ap isRefused (sym e ∙ g)))) (ap (λ a. booksSmall (postedAll (answerPostings a first second (4 * shareOf (s .mode) P) entries) (books l))) e ∙ sym (p .fits) ∙ f)
 

@@ -1,13 +1,13 @@
 -- The reads that were observed: what their rows and entries tell of their groups.
 -- Assumes nothing.
-use mathlib.Core.Path.{_≡_, refl, sym, ap, ap₂, _∙_}
-use mathlib.Core.Bool.{Bool, true, false, cond, _&&_}
-use mathlib.Core.List.{List, [], _∷_, map}
-use Prim.Native.Nat.{ℕ, zero, suc, _+_, _*_, _≤_, _<_}
+use mathlib.Core.Path.{_≡_, refl, ap, _∙_}
+use mathlib.Core.Bool.{Bool, true, false, cond}
+use mathlib.Core.List.{List, []}
+use Prim.Native.Nat.{ℕ, _+_, _*_, _≤_, _<_}
 use native.Mathlib.Omega.{arith}
 use lib.ListN.{length, getD, drop, length-map, length-drop}
 use lib.Dec.{ltb, leb}
-use borrow.Author.Tests.{ltb-false, leb-true, lt-ltb}
+use borrow.Author.Tests.{ltb-false, leb-true}
 use Rattle.lists.specs.Member.{_∈_}
 use Rattle.lists.specs.Order.{Ascending}
 use Rattle.lists.specs.Cut.{window}
@@ -16,18 +16,18 @@ use Rattle.lists.proofs.Member.{getD-∈}
 use Rattle.seeds.specs.Seeds.{placed}
 use Rattle.places.specs.Place.{Place, before, groups}
 use Rattle.places.proofs.Placing.{groups-∈, groups-ascending}
-use Rattle.scan.specs.Entries.{entriesOf}
 use Rattle.scan.proofs.Going.{length-entries}
 use Rattle.index_search.specs.Work.{Way, workBy}
-use Rattle.answers.specs.Answer.{Row, row, listed, stateOf, mappedRow, roomRefusal, stateNumber}
+use Rattle.answers.specs.Answer.{Row, row, listed, mappedRow, stateNumber}
 use Rattle.answers.specs.Bounds.{limitRight, maxLimit}
 use Rattle.answers.specs.declared.answer.Mapping.{Mapping}
-use Rattle.ledger.specs.Booking.{Booked, targetsOf}
+use Rattle.ledger.specs.Booking.{targetsOf}
 use Rattle.ledger.specs.Counting.{Ranked}
 use Rattle.ledger.proofs.Targets.{targets-∈}
-use Rattle.raising.specs.Targets.{targetsIn, maxGroups, Targeted}
-use Rattle.raising.proofs.Choosing.{length-targets, targets-at}
-use Rattle.booking.specs.Books.{Posting, postingTargets, Tallied, Postable}
+use Rattle.raising.specs.Targets.{targetsIn, maxGroups}
+use Rattle.raising.proofs.Choosing.{targets-at}
+use Rattle.booking.specs.Books.{Postable}
+use Rattle.search.proofs.Listed.{none-listed, row-groups, listed-part}
 use Rattle.search.proofs.Parts.{listed-room}
 use Rattle.audit_rules.specs.declared.settings.Settings.{Settings}
 use Rattle.audit_rules.specs.Observing.{Sight, noWork, sightGroups, sightRoom, sightListed, sightEntries, sightRow}
@@ -38,9 +38,6 @@ use Rattle.tallies.proofs.Posted.{Posts, part-targets}
 use Rattle.ranked_reads.specs.Observe.{sightBooked}
 
 module _ (s : Settings) (ss : List (List ℕ)) (x : Sight) where
-  none-listed : listed (s .limit) [] ≡ []
-  none-listed = by-test (ltb (s .limit) 0) (λ t. rw t) (λ t. rw t)
-
   -- as many groups are listed as its row says
   sight-listed : (way : Way) → sightRow s ss way x .groups ≡ length (sightListed s ss x)
   sight-listed way = go (x .searched)
@@ -49,8 +46,8 @@ module _ (s : Settings) (ss : List (List ℕ)) (x : Sight) where
       gs = groups ss (x .bases)
 
       go : (b : Bool) → cond b (mappedRow (s .limit) gs (workBy way ss (x .bases) (s .limit))) (row (cond (s .remap) 1 0) 0 noWork) .groups ≡ length (listed (s .limit) (cond b gs []))
-      go true = by-test (ltb (s .limit) (length gs)) (λ t. rw t) (λ t. rw t)
-      go false = rw none-listed
+      go true = row-groups (s .limit) gs (workBy way ss (x .bases) (s .limit))
+      go false = rw (none-listed (s .limit))
 
   -- no more than the limit
   few-listed : length (sightListed s ss x) ≤ s .limit
@@ -59,20 +56,13 @@ module _ (s : Settings) (ss : List (List ℕ)) (x : Sight) where
       go : (gs : List Place) → length (listed (s .limit) gs) ≤ s .limit
       go gs = by-test (ltb (s .limit) (length gs)) (λ t. rw t (omega arith)) (λ t. rw t (omega (arith, ltb-false (s .limit) (length gs) t)))
 
-  listed-part : (p : Place) → p ∈ sightListed s ss x → p ∈ groups ss (x .bases)
-  listed-part p = go (x .searched) (groups ss (x .bases))
-    where
-      go : (b : Bool) (gs : List Place) → p ∈ listed (s .limit) (cond b gs []) → p ∈ gs
-      go true gs = by-test (ltb (s .limit) (length gs)) (λ l. rw l (λ k. absurd k)) (λ l. rw l (λ k. k))
-      go false gs = rw none-listed (λ k. absurd k)
-
   -- they ascend
   listed-ascend : Ascending before (sightListed s ss x)
   listed-ascend = go (x .searched) (groups ss (x .bases)) (groups-ascending ss (x .bases))
     where
       go : (b : Bool) (gs : List Place) → Ascending before gs → Ascending before (listed (s .limit) (cond b gs []))
       go true gs a = by-test (ltb (s .limit) (length gs)) (λ l. rw l tt) (λ l. rw l a)
-      go false gs a = rw none-listed tt
+      go false gs a = rw (none-listed (s .limit)) tt
 
   -- its entries fit its share
   pub sight-short : (ranked : List ℕ) (share : ℕ) → sightRoom s ss share x ≡ 0 → length (sightEntries s ss ranked x) ≤ 4 * share
@@ -100,7 +90,7 @@ module _ (s : Settings) (ss : List (List ℕ)) (way : Way) (ranked : List ℕ) (
   targets-are = ap (λ k. targetsIn k (drop from entries)) groups-are ∙ part-targets ranked (length (x .bases)) (4 * share) from gs entries zeros part fits
 
   ranked-inside : (p : Place) → p ∈ gs → p .rank < length ranked
-  ranked-inside p i = omega (arith, many, groups-∈ ss (x .bases) p (listed-part s ss x p i) .0 .ranked)
+  ranked-inside p i = omega (arith, many, groups-∈ ss (x .bases) p (listed-part (s .limit) p (x .searched) (groups ss (x .bases)) i) .0 .ranked)
 
   -- what is posted of it is what is booked of it
   pub sight-posts : Posts ranked (record { tally = tallyOf role m; entries = drop from entries }) (sightBooked s ss way role x)

@@ -6,20 +6,15 @@ use Prim.Native.Nat.{ℕ, zero, suc, _+_, _*_, _/_, _<_, _≤_}
 use native.Mathlib.Omega.{arith}
 use lib.ListN.{length, set, replicate, length-replicate}
 use Rattle.seeds.specs.Seeds.{placed}
-use Rattle.seeds.proofs.Storing.{placed-none, length-placed, placed-snoc}
+use Rattle.seeds.proofs.Storing.{placed-none, length-placed, placed-next, placed-one}
 use Rattle.scan.specs.Entries.{entryOf, entryCount, cleared}
-
--- one number more, at the place behind those that are written
-put-next : (at : ℕ) (xs b : List ℕ) (v i : ℕ) → i ≡ at + length xs → i < length b → set (placed at xs b) i v ≡ placed at (xs ++ (v ∷ [])) b
-put-next at xs b v i e h = ap (λ k. set (placed at xs b) k v) e ∙ placed-snoc at xs b v (omega arith)
 
 pub entry-put : (at : ℕ) (b : List ℕ) (t s e d : ℕ) → at + 4 ≤ length b → set (set (set (set b at t) (at + 1) s) (at + 2) e) (at + 3) d ≡ placed at (entryOf t s e d) b
 entry-put at b t s e d h =
-    ap (λ l. set (set (set (set l at t) (at + 1) s) (at + 2) e) (at + 3) d) (placed-none at b)
-    ∙ ap (λ l. set (set (set l (at + 1) s) (at + 2) e) (at + 3) d) (put-next at [] b t at (omega arith) (omega arith))
-    ∙ ap (λ l. set (set l (at + 2) e) (at + 3) d) (put-next at (t ∷ []) b s (at + 1) (omega arith) (omega arith))
-    ∙ ap (λ l. set l (at + 3) d) (put-next at (t ∷ s ∷ []) b e (at + 2) (omega arith) (omega arith))
-    ∙ put-next at (t ∷ s ∷ e ∷ []) b d (at + 3) (omega arith) (omega arith)
+    let one = placed-one at t b (omega arith) in
+    let two = placed-next at (t ∷ []) b _ s (at + 1) (omega arith) one (omega arith) in
+    let three = placed-next at (t ∷ s ∷ []) b _ e (at + 2) (omega arith) two (omega arith) in
+    placed-next at (t ∷ s ∷ e ∷ []) b _ d (at + 3) (omega arith) three (omega arith)
 
 replicate-snoc : (n v : ℕ) → replicate n v ++ (v ∷ []) ≡ replicate (suc n) v
 replicate-snoc zero v = refl
@@ -40,7 +35,7 @@ module _ (b : List ℕ) (n : ℕ) where
     clearing-length = ap length (c .content) ∙ length-placed 0 (replicate i 0) b (omega (arith, length-replicate {A = ℕ} i 0, c .upto, c .inside))
 
     pub clearing-next : i < n → Clearing b n (i + 1) (set now i 0)
-    clearing-next h = record { upto = omega arith; inside = c .inside; content = ap (λ l. set l i 0) (c .content) ∙ put-next 0 (replicate i 0) b 0 i (omega (arith, length-replicate {A = ℕ} i 0)) (omega (arith, c .inside)) ∙ ap (λ l. placed 0 l b) (replicate-snoc i 0) ∙ ap (λ k. placed 0 (replicate k 0) b) one }
+    clearing-next h = record { upto = omega arith; inside = c .inside; content = placed-next 0 (replicate i 0) b now 0 i (omega (arith, length-replicate {A = ℕ} i 0)) (c .content) (omega (arith, c .inside)) ∙ ap (λ l. placed 0 l b) (replicate-snoc i 0) ∙ ap (λ k. placed 0 (replicate k 0) b) one }
       where
         one : suc i ≡ i + 1
         one = omega arith

@@ -38,6 +38,10 @@ module _ (at : ℕ) where
         ∙ sym (append-snoc (take at b ++ xs) v (drop (suc (at + length xs)) b))
         ∙ ap₂ (λ l n. l ++ drop n b) (append-assoc (take at b) xs (v ∷ [])) n
 
+    -- the same of a buffer c that holds them, at a place i that is told
+    pub placed-next : (c : List ℕ) (v i : ℕ) → i ≡ at + length xs → c ≡ placed at xs b → i < length b → set c i v ≡ placed at (xs ++ (v ∷ [])) b
+    placed-next c v i k e h = ap₂ (λ l n. set l n v) e k ∙ placed-snoc v (omega arith)
+
     -- a second list behind the first
     pub placed-placed : (ys : List ℕ) → at + length xs + length ys ≤ length b → placed (at + length xs) ys (placed at xs b) ≡ placed at (xs ++ ys) b
     placed-placed ys h =
@@ -49,10 +53,8 @@ module _ (at : ℕ) where
         ap₂ (λ l r. l ++ ys ++ r) t d ∙ ap₂ (λ l m. l ++ drop m b) (append-assoc (take at b) xs ys) n
 
   -- a single number
-  placed-one : (v : ℕ) (b : List ℕ) → at < length b → set b at v ≡ placed at (v ∷ []) b
-  placed-one v b h =
-      let z : at ≡ at + 0 = omega arith in
-      ap₂ (λ l n. set l n v) (placed-none b) z ∙ placed-snoc [] b v (omega arith)
+  pub placed-one : (v : ℕ) (b : List ℕ) → at < length b → set b at v ≡ placed at (v ∷ []) b
+  placed-one v b h = placed-next [] b b v at (omega arith) (placed-none b) h
 
 -- ---- seeds
 

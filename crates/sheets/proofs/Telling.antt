@@ -1,7 +1,7 @@
 -- The tests of the books put together, and what a match found.
 -- Assumes nothing.
 use mathlib.Core.Path.{_≡_, refl, sym, ap}
-use mathlib.Core.Bool.{Bool, true, false, not, _&&_}
+use mathlib.Core.Bool.{Bool, true, false, not, _&&_, and-true}
 use mathlib.Core.List.{List, [], _∷_}
 use Prim.Native.Nat.{ℕ}
 use borrow.Author.Tests.{not-true, not-false}
@@ -49,16 +49,12 @@ other-shown statuses.ClosedUnsupported t k = refl
 
 -- ---- the roles of a run
 
-and-one : (b : Bool) → (b && true) ≡ b
-and-one true = refl
-and-one false = refl
-
 module _ (mode : AuditInputMode) (p : ℕ → Bool) where
   pub single-roles : OneOf (0 ∷ []) (tagOf the-mode.the-type mode) → p 0 ≡ every p (rolesOf mode)
   single-roles k = go mode k
     where
       go : (m : AuditInputMode) → OneOf (0 ∷ []) (tagOf the-mode.the-type m) → p 0 ≡ every p (rolesOf m)
-      go modes.SingleEnd k = sym (and-one (p 0))
+      go modes.SingleEnd k = sym (and-true (p 0))
       go modes.PairedEnd k = absurd (miss (0 ∷ []) 1 tt k)
 
   module _ (k : OneOf (1 ∷ []) (tagOf the-mode.the-type mode)) (r : Bool) (first : r ≡ p 1) where
@@ -67,7 +63,7 @@ module _ (mode : AuditInputMode) (p : ℕ → Bool) where
       where
         go : (m : AuditInputMode) → OneOf (1 ∷ []) (tagOf the-mode.the-type m) → (p 1 && p 2) ≡ every p (rolesOf m)
         go modes.SingleEnd k = absurd (miss (1 ∷ []) 0 tt k)
-        go modes.PairedEnd k = ap (λ b. p 1 && b) (sym (and-one (p 2)))
+        go modes.PairedEnd k = ap (λ b. p 1 && b) (sym (and-true (p 2)))
 
     pub by-first : not r ≡ true → false ≡ every p (rolesOf mode)
     by-first e = rw (not-true r e) at both

@@ -9,8 +9,7 @@ ghost use Rattle.sheets.specs.Agreeing.{booksAgree};
 use audit_rules::settings::AuditInputMode;
 use audit_rules::settings::Settings;
 use ledger::Ledger;
-
-const MAX_COUNTER: u64 = 18446744073709551615;
+use ledger::MAX_COUNTER;
 
 // Whether numbers have a sum of 64 bits that is the total.
 pub fn sum_agrees(numbers: &[u64], total: u64) -> bool

@@ -1,59 +1,29 @@
 -- Reads posted by the targets in the entries are booked as they should be, and 17 is the test of every kept number.
 -- Assumes nothing.
-use mathlib.Core.Path.{_≡_, refl, sym, ap, ap₂, _∙_}
-use mathlib.Core.Bool.{Bool, true, false, cond, _&&_, _||_}
-use mathlib.Core.List.{List, [], _∷_, _++_}
-use Prim.Native.Nat.{ℕ, zero, suc, _+_, _*_, _≤_, _<_}
-use native.Mathlib.Omega.{arith}
-use lib.ListN.{length, take, drop}
+use mathlib.Core.Path.{_≡_, refl, sym, ap, _∙_}
+use mathlib.Core.Bool.{cond, _||_, and-assoc}
+use mathlib.Core.List.{List, [], _∷_}
+use Prim.Native.Nat.{ℕ, _+_, _*_, _≤_}
+use lib.ListN.{length, drop}
 use lib.Dec.{eqb, ltb}
-use Rattle.lists.specs.Filter.{every}
-use Rattle.lists.specs.Member.{_∈_, Distinct}
-use Rattle.lists.specs.Order.{Ascending}
 use Rattle.lists.specs.Cut.{window}
-use Rattle.places.specs.Place.{Place, before}
-use Rattle.scan.specs.Entries.{entriesOf, cleared}
+use Rattle.lists.proofs.Every.{every-append}
+use Rattle.places.specs.Place.{Place}
+use Rattle.scan.specs.Entries.{entriesOf}
 use Rattle.seeds.specs.Seeds.{placed}
-use Rattle.ledger.specs.declared.Ledger.{Ledger}
-use Rattle.ledger.specs.Booking.{raised, raisedAt, cell, Booked, Counters, Books, targetsOf, distinct, singleTargets, multiTargets, ledgerWith, countersWith, bookedOne, bookedAll, maxCounter, kept, countable}
-use Rattle.raising.specs.Targets.{targetsIn, runEnds, small}
+use Rattle.ledger.specs.Booking.{raised, raisedAt, cell, Booked, Books, targetsOf, singleTargets, multiTargets, ledgerWith, countersWith, bookedOne, bookedAll, countable}
+use Rattle.raising.specs.Targets.{targetsIn}
 use Rattle.posting.specs.Posting.{severalRuns}
-use Rattle.booking.specs.declared.ReadTally.{ReadTally}
 use Rattle.booking.specs.Books.{Posting, postingTargets, postedOne, postedAll, booksSmall}
 use Rattle.tallies.proofs.Runs.{Grouped, targets-listed, targets-front, runs-distinct}
 
 -- ---- 17
 
-every-append : (p : ℕ → Bool) (xs ys : List ℕ) → every p (xs ++ ys) ≡ (every p xs && every p ys)
-every-append p [] ys = refl
-every-append p (x ∷ xs) ys = rw (every-append p xs ys) (go (p x))
-  where
-    go : (b : Bool) → (b && (every p xs && every p ys)) ≡ ((b && every p xs) && every p ys)
-    go true = refl
-    go false = refl
-
 -- every kept number has 64 bits
 pub books-countable : (books : Books) → countable books ≡ booksSmall books
 unfolding countable
 books-countable books =
-    rw (every-append, every-append, every-append, every-append, every-append)
-    (go (small (l .table)) (small (l .reads)) (small (l .placements ∷ l .singles ∷ l .multi ∷ [])) (small (k .placements)) (small (k .singles)) (small (k .multi)))
-  where
-    l : Ledger
-    l = books .ledger
-
-    k : Counters
-    k = books .counters
-
-    go : (a b c d e f : Bool) → (((((a && b) && c) && d) && e) && f) ≡ ((a && b && c) && (d && e && f))
-    go true true true d e f = by d
-      where
-        by : (x : Bool) → ((x && e) && f) ≡ (x && e && f)
-        by true = refl
-        by false = refl
-    go true true false d e f = refl
-    go true false c d e f = refl
-    go false b c d e f = refl
+    simp (every-append, and-assoc)
 
 -- ---- one read
 

@@ -10,9 +10,9 @@ use lib.Dec.{eqb}
 use borrow.Author.Tests.{eqb-true, not-true, not-false}
 use Rattle.lists.specs.Same.{same}
 use Rattle.lists.proofs.Cases.{and-true}
-use Rattle.lists.proofs.Cut.{length-cut}
 use Rattle.catalogue.specs.Catalogue.{Catalogue, names, sequences, targets, targetsFrom, inBounds}
 use Rattle.catalogue.proofs.Checks.{bounded}
+use Rattle.catalogue.proofs.Mapped.{sequence-count, mark-count, target-count}
 use Rattle.ledger.specs.Booking.{Counters}
 use Rattle.audit_rules.specs.declared.calls.CallAnswer.the-variants as calls
 use Rattle.audit_rules.specs.declared.sheet.Sheet.{Sheet}
@@ -20,7 +20,7 @@ use Rattle.audit_rules.specs.Opening.{countersRight}
 use Rattle.audit_rules.specs.Unitigs.{allAlike, applyRefusal}
 use Rattle.unitigs.specs.Rows.{namesAlike, listsRight, rowsTo, Named, RowsLent, Applies}
 use Rattle.unitigs.proofs.Comparing.{alike-lengths}
-use Rattle.unitigs.proofs.Writing.{length-targets, rows-of-targets}
+use Rattle.unitigs.proofs.Writing.{rows-of-targets}
 
 -- ---- targets in their bounds
 
@@ -39,18 +39,8 @@ alike-targets j j′ (n ∷ ns) (s ∷ ss) (m ∷ ms) (n′ ∷ ns′) (s′ ∷
 alike-targets j j′ (n ∷ ns) (s ∷ ss) (m ∷ ms) (n′ ∷ ns′) (s′ ∷ ss′) (m′ ∷ ms′) a b a′ b′ =
     ap (λ t. same n n′ && eqb m m′ && t) (alike-targets (suc j) (suc j′) ns ss ms ns′ ss′ ms′ (omega (arith, a)) (omega (arith, b)) (omega (arith, a′)) (omega (arith, b′)))
 
-module _ (c : Catalogue) (t : inBounds c ≡ true) where
-  sequenced : length (sequences c) ≡ length (names c)
-  sequenced = omega (arith, bounded c t .sequenced, length-cut 0 (c .identifierEnds) (c .identifiers), length-cut 0 (c .baseEnds) (c .bases))
-
-  marked : length (c .marks) ≡ length (names c)
-  marked = omega (arith, bounded c t .marked, length-cut 0 (c .identifierEnds) (c .identifiers))
-
-  counted : length (targets c) ≡ length (c .marks)
-  counted = length-targets 0 (names c) (sequences c) (c .marks) sequenced marked
-
-  named : Named (c .identifiers) (c .identifierEnds) (c .marks)
-  named = record { right = bounded c t .named; marked = bounded c t .marked }
+named : (c : Catalogue) → inBounds c ≡ true → Named (c .identifiers) (c .identifierEnds) (c .marks)
+named c t = record { right = bounded c t .named; marked = bounded c t .marked }
 
 -- ---- the tests in their order
 
@@ -81,7 +71,7 @@ module _ (audited c : Catalogue) (sheet : Sheet) (k : Counters) (rows : List ℕ
 
         module _ (r : Bool) (of-lists : r ≡ listsRight rows k (length (audited .marks)) (length (c .marks))) where
           lists : (countersRight audited k && eqb (length rows) (4 * length (targets c))) ≡ r
-          lists = rw (counted audited u, counted c t) (sym of-lists)
+          lists = rw (target-count audited u, target-count c t) (sym of-lists)
 
           pub lists-out : (n : ℕ) → n ≡ 2 → not r ≡ true → Applies audited c sheet k rows (calls.Refused n) rows
           unfolding applyRefusal
@@ -93,7 +83,7 @@ module _ (audited c : Catalogue) (sheet : Sheet) (k : Counters) (rows : List ℕ
 
             alike : allAlike (targets audited) (targets c) ≡ s
             alike =
-                alike-targets 0 0 (names audited) (sequences audited) (audited .marks) (names c) (sequences c) (c .marks) (sequenced audited u) (marked audited u) (sequenced c t) (marked c t)
+                alike-targets 0 0 (names audited) (sequences audited) (audited .marks) (names c) (sequences c) (c .marks) (sequence-count audited u) (mark-count audited u) (sequence-count c t) (mark-count c t)
                 ∙ sym of-names
 
             pub names-out : (n : ℕ) → n ≡ 19 → not s ≡ true → Applies audited c sheet k rows (calls.Refused n) rows
@@ -104,7 +94,7 @@ module _ (audited c : Catalogue) (sheet : Sheet) (k : Counters) (rows : List ℕ
               pub rows-lent : RowsLent (length (c .marks)) k rows
               rows-lent =
                   let n : length (audited .marks) ≡ length (c .marks) =
-                  omega (arith, alike-lengths (names audited) (audited .marks) (names c) (c .marks) (sym of-names ∙ not-false s in-s), marked audited u, marked c t) in
+                  omega (arith, alike-lengths (names audited) (audited .marks) (names c) (c .marks) (sym of-names ∙ not-false s in-s), mark-count audited u, mark-count c t) in
                   let a = length (audited .marks) in
                   let p = eqb (length (k .placements)) a in
                   let o = eqb (length (k .singles)) a in
@@ -124,4 +114,4 @@ module _ (audited c : Catalogue) (sheet : Sheet) (k : Counters) (rows : List ℕ
               accepted = rw (t, u, lists ∙ right, alike ∙ not-false s in-s)
 
               pub applies : (rows′ : List ℕ) → rows′ ≡ rowsTo (sheet .run .status) (c .marks) k (length (c .marks)) → Applies audited c sheet k rows calls.Accepted rows′
-              applies rows′ w = record { answer = rw accepted; left = rw accepted (w ∙ sym (rows-of-targets sheet k (c .marks) (names c) (sequences c) (sequenced c t) (marked c t))) }
+              applies rows′ w = record { answer = rw accepted; left = rw accepted (w ∙ sym (rows-of-targets sheet k (c .marks) (names c) (sequences c) (sequence-count c t) (mark-count c t))) }

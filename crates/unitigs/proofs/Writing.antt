@@ -92,13 +92,6 @@ module _ (status : Status) (marks : List ℕ) (k : Counters) (rows₀ : List ℕ
 
 -- ---- the targets of a catalogue
 
-pub length-targets : (j : ℕ) (ns ss : List (List ℕ)) (ms : List ℕ) → length ss ≡ length ns → length ms ≡ length ns → length (targetsFrom j ns ss ms) ≡ length ms
-length-targets j [] ss [] a b = refl
-length-targets j [] ss (m ∷ ms) a b = absurd (omega (arith, b))
-length-targets j (n ∷ ns) [] ms a b = absurd (omega (arith, a))
-length-targets j (n ∷ ns) (s ∷ ss) [] a b = absurd (omega (arith, b))
-length-targets j (n ∷ ns) (s ∷ ss) (m ∷ ms) a b = ap suc (length-targets (suc j) ns ss ms (omega (arith, a)) (omega (arith, b)))
-
 module _ (sheet : Sheet) (k : Counters) (marks : List ℕ) where
   -- the rows before place j, then those of the targets from j on
   rows-from : (j : ℕ) (ns ss : List (List ℕ)) (ms : List ℕ) → length ss ≡ length ns → length ms ≡ length ns → ms ≡ drop j marks
