@@ -21,22 +21,17 @@ use Rattle.index_search.specs.Work.{Way, workBy}
 use Rattle.answers.specs.Answer.{row, stateOf, mappedRow}
 use Rattle.ledger.specs.Booking.{Booked}
 use Rattle.ledger.specs.Counting.{Bookable}
-use Rattle.audit_rules.specs.declared.settings.MateRole.{MateRole}
 use Rattle.audit_rules.specs.declared.settings.MateRole.the-variants as roles
 use Rattle.audit_rules.specs.declared.settings.Settings.{Settings}
-use Rattle.audit_rules.specs.Settings.{Held, roleNumber, statesShown}
+use Rattle.audit_rules.specs.Settings.{Held, statesShown}
 use Rattle.audit_rules.specs.Opening.{wayOf}
 use Rattle.audit_rules.specs.Observing.{MateRead, isEligible, noWork, mateBooked}
 use Rattle.audit_rules.specs.Fragment.{fragmentRefusal, fragmentBooked, fragmentAccepted, heldAfter}
+use Rattle.audit_rules.proofs.Booked.{few-roles}
 use Rattle.agreement.proofs.Turned.{listed-∈}
 use Rattle.audit_rules.specs.Run.{Call, ifAccepted, next, books, after, history}
 
 -- ---- one read
-
-few-roles : (role : MateRole) → roleNumber role < 3
-few-roles roles.S = omega arith
-few-roles roles.R1 = omega arith
-few-roles roles.R2 = omega arith
 
 shown-state : (n : ℕ) → stateOf n ∈ statesShown true
 shown-state zero = inr (inr (inl refl))

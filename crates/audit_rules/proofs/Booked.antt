@@ -3,7 +3,8 @@
 use mathlib.Core.Path.{_≡_, refl, ap}
 use mathlib.Core.Bool.{true}
 use mathlib.Core.List.{List, [], _∷_, map}
-use Prim.Native.Nat.{ℕ, zero, suc}
+use Prim.Native.Nat.{ℕ, zero, suc, _<_}
+use native.Mathlib.Omega.{arith}
 use lib.ListN.{length}
 use lib.Dec.{ltb}
 use Rattle.lists.proofs.Cases.{by-test}
@@ -15,11 +16,19 @@ use Rattle.index_search.specs.Work.{work}
 use Rattle.index_search.specs.declared.work.MappingWork.{MappingWork}
 use Rattle.answers.specs.Answer.{Row}
 use Rattle.ledger.specs.Booking.{Booked}
+use Rattle.audit_rules.specs.declared.settings.MateRole.{MateRole}
+use Rattle.audit_rules.specs.declared.settings.MateRole.the-variants as roles
 use Rattle.audit_rules.specs.declared.settings.Settings.{Settings}
 use Rattle.audit_rules.specs.Settings.{Held, roleNumber}
 use Rattle.audit_rules.specs.Opening.{IndexLent, columns, wayOf}
 use Rattle.audit_rules.specs.Observing.{MateRead, isSearched, mateRow}
 use Rattle.audit_rules.specs.Fragment.{fragmentBooked, heldAfter}
+
+-- there are three roles
+pub few-roles : (role : MateRole) → roleNumber role < 3
+few-roles roles.S = omega arith
+few-roles roles.R1 = omega arith
+few-roles roles.R2 = omega arith
 
 -- a refused call leaves state and counters as they were
 pub refused-holds : (n : ℕ) → (n ≡ 0 → ⊥) → (accepted h : Held) → heldAfter n accepted h ≡ h

@@ -3,18 +3,19 @@
 use mathlib.Core.Path.{_≡_, refl, sym, ap, ap₂, subst₂, _∙_}
 use mathlib.Core.Bool.{Bool, true, false, _&&_}
 use mathlib.Core.List.{List}
-use Prim.Native.Nat.{ℕ, zero, suc, _≤_}
+use Prim.Native.Nat.{ℕ, _≤_}
 use native.Mathlib.Omega.{arith}
 use lib.ListN.{length, take}
 use borrow.Author.Tests.{le-leb}
 use Rattle.lists.proofs.Cases.{and-true}
 use Rattle.promises.specs.Refusal.{_orElse_, outcome}
-use Rattle.promises.proofs.Refusing.{outcome-refused, outcome-accepted, outcome-number}
+use Rattle.promises.proofs.Refusing.{stands, outcome-refused, outcome-accepted, outcome-number}
 use Rattle.catalogue.specs.Catalogue.{Catalogue, targets, mapped, suppliedPlaces, maxTargets}
 use Rattle.catalogue.specs.Ranking.{rankingOutcome}
 use Rattle.catalogue.specs.declared.ranks.Ranking.{Ranking}
 use Rattle.catalogue.specs.declared.ranks.Ranking.the-variants.{Refused, Ranked}
 use Rattle.catalogue.proofs.Checks.{bounded}
+use Rattle.catalogue.proofs.Mapped.{target-count}
 use Rattle.seeds.specs.Key.{SeedLength, maxSeed}
 use Rattle.index.specs.Index.{rankedSequences, mappedSequences, index, columnsOf, planRefusal, Lent, Indexed}
 use Rattle.planning.specs.Answers.{PlanRanked}
@@ -34,7 +35,7 @@ use Rattle.audit_rules.proofs.Opening.{OpeningNumber, Passed, opening-passed, o
 use Rattle.audit_rules.proofs.Catalogues.{places-ranked}
 use Rattle.audit_rules.proofs.Booked.{refused-holds}
 use Rattle.opening.specs.Opens.{OpeningRanked}
-use Rattle.opening.proofs.Opening.{target-count, counted}
+use Rattle.opening.proofs.Opening.{counted}
 use Rattle.sighting.specs.Sights.{wayIf}
 use Rattle.tested_fragments.specs.Tested.{Tested, TestedAudited}
 use Rattle.tested_fragments.proofs.Chain.{untouched}
@@ -116,12 +117,8 @@ module _ (q offset : ℕ) (c : Catalogue) (lent : IndexLent) (h : Held) (f : Fra
       number : OpeningNumber opening
       number = opening-number q offset c lent (h .state .settings) (h .counters)
 
-      first : (m k : ℕ) → (m ≡ 0 → ⊥) → (m orElse k) ≡ m
-      first zero k z = absurd (z refl)
-      first (suc m) k z = refl
-
       all : fragmentRefusal q offset c lent h f (entryCount entries) ≡ n
-      all = chain ∙ ap (λ z. z orElse own) e ∙ first n own ne
+      all = chain ∙ stands n opening own ne e
 
   -- they pass: the rest is the fragment's own
   pub call-done : opening ≡ 0 → (r : FragmentAudit) (k : Counters) (entries′ : List ℕ) → TestedAudited offset (mappedSequences c) (wayOf q lent) (suppliedPlaces c) h f r k entries entries′ → Audits q offset c lent h f entries r k entries′

@@ -3,14 +3,14 @@
 use mathlib.Core.Path.{_≡_, refl, sym, ap, _∙_}
 use mathlib.Core.Bool.{Bool, true, false, not, _&&_, _||_}
 use mathlib.Core.List.{List}
-use Prim.Native.Nat.{ℕ, zero, suc, _-_, _≤_, _<_}
+use Prim.Native.Nat.{ℕ, _-_, _≤_, _<_}
 use native.Mathlib.Omega.{arith}
 use lib.ListN.{length, take}
 use lib.Dec.{eqb}
 use borrow.Author.Tests.{lt-leb, le-leb, eq-eqb, ne-eqb, eqb-true, not-true, not-false}
 use Rattle.lists.proofs.Cases.{by-test, and-true}
 use Rattle.promises.specs.Refusal.{unless, _orElse_, outcome}
-use Rattle.promises.proofs.Refusing.{first-stands, outcome-refused}
+use Rattle.promises.proofs.Refusing.{stands, grouped, outcome-refused}
 use Rattle.bases.specs.Eligibility.{lastQuality}
 use Rattle.catalogue.specs.Catalogue.{Catalogue, mapped, inBounds, catalogueRefusal}
 use Rattle.catalogue.specs.Ranking.{rankingOutcome}
@@ -79,15 +79,6 @@ by-marks c k n =
     (λ e. rw e (two-follows (countersRight c k) (countersFor (length (c .marks)) k)))
 
 -- ---- the chain
-
--- a chain grouped from its first two
-grouped : (a b n : ℕ) → (a orElse b orElse n) ≡ ((a orElse b) orElse n)
-grouped zero b n = refl
-grouped (suc a) b n = refl
-
--- a refusal that is told stands
-stands : (n m rest : ℕ) → (n ≡ 0 → ⊥) → m ≡ n → (m orElse rest) ≡ n
-stands n m rest ne e = rw e (sym (first-stands n rest ne))
 
 -- with seeds of a right length a plan is refused as its catalogue is
 seeded : (q : ℕ) (c : Catalogue) → SeedLength q → planRefusal q c ≡ catalogueRefusal c

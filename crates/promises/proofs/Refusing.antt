@@ -1,6 +1,6 @@
 -- Chains of refusals, and the outcomes that they give.
 -- Assumes nothing.
-use mathlib.Core.Path.{_≡_, refl}
+use mathlib.Core.Path.{_≡_, refl, sym}
 use mathlib.Core.Bool.{Bool, true, false}
 use Prim.Native.Nat.{ℕ, zero, suc}
 use native.Mathlib.Omega.{arith}
@@ -10,6 +10,15 @@ use Rattle.promises.specs.Refusal.{unless, _orElse_, refused, accepted, 
 pub first-stands : (n m : ℕ) → (n ≡ 0 → ⊥) → n ≡ (n orElse m)
 first-stands zero m ne = absurd (ne refl)
 first-stands (suc n) m ne = refl
+
+-- a refusal that is told stands
+pub stands : (n m rest : ℕ) → (n ≡ 0 → ⊥) → m ≡ n → (m orElse rest) ≡ n
+stands n m rest ne e = rw e (sym (first-stands n rest ne))
+
+-- a chain grouped from its first two
+pub grouped : (a b n : ℕ) → (a orElse b orElse n) ≡ ((a orElse b) orElse n)
+grouped zero b n = refl
+grouped (suc a) b n = refl
 
 -- in a chain without a refusal there is none, first or second
 pub none-first : (n m : ℕ) → (n orElse m) ≡ 0 → n ≡ 0

@@ -38,6 +38,7 @@ use Rattle.audit_rules.specs.declared.settings.Settings.{Settings}
 use Rattle.audit_rules.specs.Observing.{Sight, sightRoom, sightEntries, sightRow}
 use Rattle.audit_rules.specs.Fragment.{firstOf, shareOf, inParts, entriesLeft}
 use Rattle.audit_rules.specs.Calls.{mappingRow, fragmentOutcome}
+use Rattle.audit_rules.proofs.Booked.{few-roles}
 use Rattle.audit_rules.proofs.Parts.{Short, InParts, length-parts, parts-placed}
 use Rattle.checking.specs.Checks.{byMode}
 use Rattle.checking.specs.declared.SearchedReads.{SearchedReads}
@@ -263,11 +264,6 @@ module _ (s : Settings) (ss : List (List ℕ)) (way : Way) (ranked : List ℕ) (
             record { answer = rw (o .1) refl; entries = rw (o .1) (e ∙ within-cleared buffer entries (told .within (o .0))) }
 
 -- ---- as the function has it
-
-pub few-roles : (role : MateRole) → roleNumber role < 3
-few-roles roles.S = omega arith
-few-roles roles.R1 = omega arith
-few-roles roles.R2 = omega arith
 
 module _ (indexed : Bool) (q : ℕ) (bases ends ranked ks rs os first second : List ℕ) (searched : SearchedReads) (s : Settings) (k : Counters)
     (lent : RankedLent indexed q bases ends ranked ks rs os first second searched s k) (one two : MateRole) (buffer entries : List ℕ) (r : FragmentAnswer)

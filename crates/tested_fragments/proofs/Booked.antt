@@ -26,14 +26,14 @@ use Rattle.audit_rules.specs.Observing.{MateRead, Sight, sightOf, sightRoom, si
 use Rattle.audit_rules.specs.Fragment.{Fragment, firstOf, shareOf, inParts, entriesLeft, testedBooks, testedRefusal, testedRows, testedAccepted, heldAfter}
 use Rattle.audit_rules.specs.Calls.{fragmentOutcome, lentReads, fragmentOf}
 use Rattle.audit_rules.proofs.Checking.{TestedChecked, tested-checked}
-use Rattle.audit_rules.proofs.Booked.{refused-holds}
+use Rattle.audit_rules.proofs.Booked.{few-roles, refused-holds}
 use Rattle.checking.specs.Checks.{byMode}
 use Rattle.observing.specs.Reads.{roomsRefusal, ReadsObserved}
 use Rattle.observing.proofs.Fragment.{not-refused}
 use Rattle.tallies.specs.Answers.{answerPostings, answerBooked, AnswerRaisable}
 use Rattle.tallies.proofs.Posted.{posted-all, books-countable}
 use Rattle.ranked_reads.specs.Observe.{sightBooked}
-use Rattle.ranked_reads.proofs.Observed.{few-roles, AnswerTold, told}
+use Rattle.ranked_reads.proofs.Observed.{AnswerTold, told}
 use Rattle.tested_fragments.specs.Tested.{TestedObserved, TestedAudited}
 use Rattle.tested_fragments.proofs.Chain.{roles-same, reads-by-mode}
 use Rattle.tested_fragments.proofs.Joining.{by-mates, rooms-same, booked-same}

@@ -3,10 +3,10 @@
 use mathlib.Core.Path.{_≡_, refl, sym, ap, ap₂, subst, _∙_}
 use mathlib.Core.Bool.{Bool, true, false}
 use mathlib.Core.List.{List, [], _∷_, map}
-use Prim.Native.Nat.{ℕ, zero, suc, _*_}
+use Prim.Native.Nat.{ℕ, _*_}
 use native.Mathlib.Omega.{arith}
 use Rattle.promises.specs.Refusal.{unless, _orElse_, outcome}
-use Rattle.promises.proofs.Refusing.{none-first, none-second, passed, outcome-refused}
+use Rattle.promises.proofs.Refusing.{stands, grouped, none-second, passed, outcome-refused}
 use Rattle.scan.specs.Entries.{entryCount, cleared}
 use Rattle.index_search.specs.Work.{Way}
 use Rattle.ledger.specs.Booking.{Booked, bookedAll, countable}
@@ -24,20 +24,6 @@ use Rattle.ordering.specs.Order.{orderRefusal, rolesFit}
 use Rattle.ranked_reads.specs.Observe.{sightBooked, rankedRefusal, RankedObserved}
 use Rattle.tested_fragments.specs.Tested.{TestedObserved}
 use Rattle.tested_fragments.proofs.Chain.{untouched, roles-same, reads-by-mode, Other, other-reads}
-
--- ---- two checks and what follows them
-
-two-stand : (a b r n : ℕ) → (a orElse b) ≡ n → (n ≡ 0 → ⊥) → (a orElse b orElse r) ≡ n
-two-stand zero zero r n e ne = absurd (ne (sym e))
-two-stand zero (suc b) r n e ne = e
-two-stand (suc a) b r n e ne = e
-
-two-pass : (a b r : ℕ) → (a orElse b) ≡ 0 → (a orElse b orElse r) ≡ r
-two-pass a b r e = rw (none-first a b e, none-second a b e)
-
-one-stands : (n r : ℕ) → (n ≡ 0 → ⊥) → (n orElse r) ≡ n
-one-stands zero r ne = absurd (ne refl)
-one-stands (suc n) r ne = refl
 
 -- ---- reads, and what was checked of them: whether they are searched, and their bases
 
@@ -115,7 +101,7 @@ module _ (offset : ℕ) (ss : List (List ℕ)) (way : Way) (ranked : List ℕ) (
 
   -- 12 or 13
   pub by-order : (n : ℕ) → n ≡ order → (n ≡ 0 → ⊥) → Observed (fragments.Refused n) buffer
-  by-order n e ne = stays n (chain ∙ two-stand twelve thirteen rest n (sym e) ne) ne (subst Other (sym e) order-other)
+  by-order n e ne = stays n (chain ∙ grouped twelve thirteen rest ∙ stands n order rest ne (sym e)) ne (subst Other (sym e) order-other)
 
   module _ (ordered : order ≡ 0) where
     -- the reads are those of the mode
@@ -126,13 +112,13 @@ module _ (offset : ℕ) (ss : List (List ℕ)) (way : Way) (ranked : List ℕ) (
 
     -- what is left of the chain
     rest-is : testedRefusal offset ss way ranked h f (entryCount buffer) ≡ rest
-    rest-is = chain ∙ two-pass twelve thirteen rest ordered
+    rest-is = chain ∙ grouped twelve thirteen rest ∙ ap (λ z. z orElse rest) ordered
 
     -- 7 or 14 to 16
     pub by-reads : (n : ℕ) → firstOf (mateRefusal offset s) (byMode (s .mode) m m′) ≡ n → (n ≡ 0 → ⊥) → Observed (fragments.Refused n) buffer
     by-reads n e ne =
         let g : firstOf (mateRefusal offset s) (lentReads count m m′) ≡ n = ap (firstOf (mateRefusal offset s)) reads-are ∙ e in
-        stays n (rest-is ∙ ap (λ z. z orElse rooms) g ∙ one-stands n rooms ne) ne (subst Other g (other-reads offset s (lentReads count m m′)))
+        stays n (rest-is ∙ stands n _ rooms ne g) ne (subst Other g (other-reads offset s (lentReads count m m′)))
 
     -- observed
     module _ (checked : firstOf (mateRefusal offset s) (byMode (s .mode) m m′) ≡ 0) where
