@@ -119,9 +119,12 @@ module _ (q offset : ℕ) (c : Catalogue) (lent : IndexLent) (h : Held) (f : Fra
       openingRefusal q offset c lent (h .state .settings) (h .counters)
       orElse testedRefusal offset (mappedSequences c) (wayOf q lent) (suppliedPlaces c) h f entries
 
+  abbrev pub fragmentRows : List Row
+  fragmentRows = testedRows offset (mappedSequences c) (wayOf q lent) (suppliedPlaces c) h f
+
   -- the answer: a row for each read
   abbrev pub fragmentAnswer : ℕ → Outcome (List Row)
-  fragmentAnswer entries = outcome (fragmentRefusal entries) (testedRows offset (mappedSequences c) (wayOf q lent) (suppliedPlaces c) h f)
+  fragmentAnswer entries = outcome (fragmentRefusal entries) fragmentRows
 
   abbrev pub fragmentAccepted : Held
   fragmentAccepted = testedAccepted offset (mappedSequences c) (wayOf q lent) (suppliedPlaces c) h f
