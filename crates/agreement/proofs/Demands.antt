@@ -6,12 +6,16 @@ use Prim.Native.Nat.{ℕ}
 use native.Mathlib.Omega.{arith}
 use Rattle.catalogue.specs.Catalogue.{Catalogue}
 use Rattle.ledger.specs.Booking.{Counters}
+use Rattle.audit_rules.specs.declared.calls.Opening.{Opening}
+use Rattle.audit_rules.specs.declared.calls.Finish.{Finish}
 use Rattle.audit_rules.specs.declared.settings.Settings.{Settings}
 use Rattle.audit_rules.specs.Settings.{Held, auditSeed, auditOffset}
 use Rattle.audit_rules.specs.Opening.{IndexLent, columns, none, openingRefusal, openingHeld}
 use Rattle.audit_rules.specs.Run.{Call, next, after}
 use Rattle.agreement.specs.Meaning.{RunMeans, Reconciled, CanBeLeftOut}
 use Rattle.agreement.specs.Twins.{TwinCall, RefusedTogether, RunsAgree}
+use Rattle.agreement.specs.Made.{MadeCall, RunMade, RunIsPaper}
+use Rattle.agreement.proofs.Made.{made-is-paper}
 use Rattle.agreement.proofs.Running.{spare-call}
 use Rattle.agreement.proofs.Sheets.{run-counts, sheet-means, never-apart, role-shown}
 use Rattle.agreement.proofs.Listing.{calls-mean}
@@ -37,6 +41,12 @@ pub demand-three : (c : Catalogue) (s : Settings) (k k′ : Counters) (ks rs os 
     → RefusedTogether auditSeed auditOffset c ks′ rs′ os′ (openingHeld auditSeed auditOffset c (columns ks rs os) s k) (openingHeld auditSeed auditOffset c none s k′) xs
     → RunsAgree auditSeed auditOffset c ks′ rs′ os′ (openingHeld auditSeed auditOffset c (columns ks rs os) s k) (openingHeld auditSeed auditOffset c none s k′) xs s
 demand-three = runs-agree auditSeed auditOffset (omega arith)
+
+-- What the calls of the code do is what the definitions say of a run: by their promises alone, an opening, fragment calls each lent what the
+-- one before it left, and `finish` answer and leave what is answered and left on paper. So the demands hold of what the calls do.
+pub as-promised : (c : Catalogue) (lent : IndexLent) (s : Settings) (k : Counters) (opening : Opening) (k′ : Counters) (xs : List MadeCall) (lent′ : IndexLent) (finish : Finish)
+    → RunMade auditSeed auditOffset c lent s k opening k′ xs lent′ finish → RunIsPaper auditSeed auditOffset c lent s k opening k′ xs lent′ finish
+as-promised = made-is-paper auditSeed auditOffset
 
 -- "No upload can spoil a run": a call that leaves state and counters as they were, a refused one above all (`refused-leaves`), can be
 -- left out of a list or put in without a change in what the others answer.

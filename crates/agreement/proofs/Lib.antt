@@ -6,5 +6,6 @@ pub mod Sheets
 pub mod Placing
 pub mod Fragments
 pub mod Agreeing
+pub mod Made
 pub mod Demands
 pub mod Examples

@@ -2,3 +2,4 @@ pub mod Placements
 pub mod Meaning
 pub mod Twins
 pub mod Examples
+pub mod Made

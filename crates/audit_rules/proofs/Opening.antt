@@ -22,6 +22,7 @@ OpeningNumber n = (n ≤ 11) × (n ≡ 10 → ⊥)
 
 -- every check has passed
 pub record Passed (q offset : ℕ) (c : Catalogue) (lent : IndexLent) (s : Settings) (k : Counters) : Type 0 where
+  pub floor : floorRight offset (s .floor) ≡ true
   pub limit : limitRight (s .limit) ≡ true
   pub counters : countersRight c k ≡ true
   pub catalogue : Valid c
@@ -36,6 +37,7 @@ module _ (q offset : ℕ) (c : Catalogue) (lent : IndexLent) (s : Settings) (k :
       let behind-limit = none-second (unless (limitRight (s .limit)) 9) _ behind-floor in
       let behind-counters = none-second (unless (countersRight c k) 2) _ behind-limit in
       record {
+        floor = passed (floorRight offset (s .floor)) 11 (λ z. omega arith) (none-first (unless (floorRight offset (s .floor)) 11) _ e);
         limit = passed (limitRight (s .limit)) 9 (λ z. omega arith) (none-first (unless (limitRight (s .limit)) 9) _ behind-floor);
         counters = passed (countersRight c k) 2 (λ z. omega arith) (none-first (unless (countersRight c k) 2) _ behind-limit);
         catalogue = valid c (none-first (catalogueRefusal c) _ behind-counters);

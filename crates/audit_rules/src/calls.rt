@@ -32,7 +32,7 @@ pub struct FragmentAudit {
     pub state: AuditState,
 }
 
-// A finished audit answers, and gives its sheet, which is all zero where it is refused.
+// A finished audit answers, and gives its sheet, which is that of the all-zero state where it is refused.
 pub struct Finish {
     pub answer: CallAnswer,
     pub sheet: Sheet,
