@@ -3,6 +3,15 @@
 
 A case is a catalogue and a list of commands; audit_scripts and audit_commands say how they are written as bytes. Each
 command is run on a model of the audit as it is written. The model knows the rules alone.
+
+Of each call the answer is compared, and whole, as it stands afterwards, all that is lent to it to be written: state,
+counters, entries, rows; these hold other numbers before. The cases cover, by the index and plain:
+- each refusal that an audit gives, 2 to 4, 6, 7, 9 to 19, alone and with each that is tested behind it;
+- 17 at each number of the ledger and each counter: for one read, for one of a pair, for both together alone;
+- 18 by rows, by each column of counters, by sums that pass the top; states that no run gives, with settings out of bounds;
+- pairs, odd numbers of entries, numbers behind the last whole entry, entries and limits around the matches;
+- remap off: empty, long and unreadable reads, no index; closed walks; no target at all; reads of every state;
+- runs on random targets, by both audits, the plain one with some reads turned round.
 """
 import importlib.util, itertools, pathlib, random
 
@@ -289,6 +298,10 @@ class Case:
         """Every counter at a value."""
         return self.set(6, 0, 16, value)
 
+    def apart(self):
+        """Each column of counters at a value of its own."""
+        return self.set(0, 0, 16, 7).set(1, 0, 16, 8).set(2, 0, 16, 9)
+
     def raw(self, settings, last=None, flag=0, table=None, reads=None, totals=None):
         self.state = State(settings)
         self.state.last, self.state.flag = last, flag
@@ -465,6 +478,7 @@ def openings():
         assert c.out[0] == f"refused {number}"
         yield c
     yield Case(MANY).open(counters=(16, 16, 16)).open(counters=(0, 0, 0))
+    yield Case([(b"n" * 255, b"ACGTAC"), (b"n" * 254, b"GTA", 1)]).open().open(plain=1).fragment(1, s(b"GTA")).finish().apply()
     # the index
     for remap, plain in itertools.product((1, 0), (0, 1)):
         c = Case(MANY)
@@ -516,9 +530,21 @@ def faults():
         yield fragment_faults(set(order[i:]), i % 2)
 
 
+def alone():
+    """Each refusal of a fragment by itself, and of the opening and the finish where they have it, by both audits."""
+    for plain, number in itertools.product((0, 1), (11, 9, 2, 3, 4, 6, 12, 13, 7, 14, 15, 16, 10, 17)):
+        c = fragment_faults({number}, plain)
+        assert (c.answers[0][1] == f"refused {number}") == ((number, plain) != (6, 1))
+        if number in FAULTS:
+            _, (floor, limit), lent = faulty([number], plain)
+            c.finish(**lent).apart().open(PAIRED, 1, floor, limit, **lent)
+        yield c
+
+
 def fragment_faults(numbers, plain):
     """A pair with the faults of these refusals, those of reads on the first that is free."""
     c, (floor, limit), lent = faulty(sorted(numbers & set(FAULTS)), plain)
+    c.apart()
     wrong = {
         7: (b"A" * 65536, None), 14: (b"", b""), 15: (b"ACG", b"~~"), 16: (b"ACG", b"~\x7f~"),
     }
@@ -634,18 +660,20 @@ def roles():
 
 def full():
     """Refusal 17: each number of the ledger and the counters, for one read and for a pair."""
-    def tried(mode, settings, reads, spots, plain, entries=36):
-        c = Case(MANY)
-        for name, at, amounts in spots:
-            for below in amounts:
-                t, r, total = list(ZEROS), [0] * 3, [0] * 3
-                {"table": t, "reads": r, "totals": total}.get(name, [0] * 18)[at] = TOP - below
-                c.counted(below + 1)
-                if name in ("placements", "singles", "multi"):
-                    c.set(("placements", "singles", "multi").index(name), at, at + 1, TOP - below)
-                c.raw((mode, *settings), 6, 0, t, r, total)
-                c.fragment(7, reads, entries=entries, plain=plain)
-        yield c
+    def tried(mode, settings, reads, spots):
+        for plain in (0, 1):
+            c = Case(MANY)
+            for name, at, amounts in spots:
+                for below in amounts:
+                    t, r, total = list(ZEROS), [0] * 3, [0] * 3
+                    {"table": t, "reads": r, "totals": total}.get(name, [0] * 18)[at] = TOP - below
+                    c.counted(below + 1)
+                    if name in ("placements", "singles", "multi"):
+                        c.set(("placements", "singles", "multi").index(name), at, at + 1, TOP - below)
+                    c.raw((mode, *settings), 6, 0, t, r, total)
+                    # nine entries, and three numbers behind them
+                    c.fragment(7, reads, entries=39, plain=plain)
+            yield c
     on = (1, 0, 20)
     # four groups on two targets, one with two of them
     spots = [
@@ -653,25 +681,29 @@ def full():
         ("placements", 0, (1, 2)), ("placements", 3, (1, 2)), ("multi", 0, (0, 1)), ("multi", 3, (0,)), ("singles", 0, (0,)),
         ("placements", 1, (0,)), ("table", 4, (0,)),
     ]
-    yield from tried(SINGLE, on, s(FOUR), spots, 0)
+    yield from tried(SINGLE, on, s(FOUR), spots)
     spots = [
         ("table", 4, (0, 1)), ("totals", 0, (0, 1)), ("totals", 1, (0, 1)), ("totals", 2, (0,)), ("placements", 0, (0, 1)),
         ("singles", 0, (0, 1)), ("multi", 0, (0,)),
     ]
-    yield from tried(SINGLE, on, s(ONCE), spots, 1)
+    yield from tried(SINGLE, on, s(ONCE), spots)
     # both of a pair on one target, and a number of the second alone
     spots = [
         ("table", 6 + 4, (0, 1)), ("table", 12 + 5, (0, 1)), ("table", 12 + 4, (0,)), ("reads", R1, (0, 1)), ("reads", R2, (0, 1)),
         ("reads", S, (0,)), ("totals", 0, (2, 3)), ("totals", 1, (0, 1)), ("totals", 2, (1, 2)), ("placements", 0, (0, 1, 2)),
         ("placements", 2, (0, 1)), ("singles", 0, (0, 1)), ("multi", 2, (0, 1)),
     ]
-    yield from tried(PAIRED, on, pair(ONCE, TWICE), spots, 0)
+    yield from tried(PAIRED, on, pair(ONCE, TWICE), spots)
     spots = [("totals", 0, (7, 8)), ("totals", 2, (3, 4)), ("placements", 3, (3, 4)), ("multi", 0, (1, 2)), ("multi", 3, (0, 1))]
-    yield from tried(PAIRED, on, pair(FOUR, FOUR), spots, 1)
+    yield from tried(PAIRED, on, pair(FOUR, FOUR), spots)
+    spots = [("totals", 0, (1, 2)), ("totals", 1, (0, 1, 2)), ("placements", 0, (1, 2)), ("singles", 0, (0, 1, 2)), ("multi", 0, (0,))]
+    yield from tried(PAIRED, on, pair(ONCE, ONCE), spots)
+    spots = [("table", 6, (0, 1)), ("table", 12, (0,)), ("reads", R1, (0,)), ("reads", R2, (0, 1)), ("table", 0, (0,)), ("totals", 0, (0,))]
+    yield from tried(PAIRED, (0, 0, 20), pair(b"", FOUR), spots)
     # states that raise two counts alone; remap off; indeterminate
     for settings, bases in ((on, NONE), (on, b"NN"), ((0, 0, 1), b""), ((1, 0, 3), FOUR)):
         state = observed((SINGLE, *settings), catalogue(MANY), read(S, bases), 1)[0]
-        yield from tried(SINGLE, settings, s(bases), [("table", state, (0, 1)), ("reads", S, (0,)), ("totals", 0, (0,)), ("placements", 0, (0,))], 0)
+        yield from tried(SINGLE, settings, s(bases), [("table", state, (0, 1)), ("reads", S, (0,)), ("totals", 0, (0,)), ("placements", 0, (0,))])
     # 10 before 17; all at the top
     for entries in (12, 16):
         yield Case(MANY).counted(TOP).raw((SINGLE, *on), None, 1, [TOP] * 18, [TOP] * 3, [TOP] * 3).fragment(7, s(FOUR), entries=entries).finish()
@@ -707,12 +739,13 @@ def apart_cases():
                 held(settings, k % 2, **dict(books, reads=r))
                 held(settings, k % 2, **dict(books, totals=total))
     # sums that pass the top, and that would agree if they wrapped
-    held((SINGLE, 1, 0, 9), **dict(base, table=table(s1=TOP, s2=1), reads=[0, 0, 0]))
-    held((SINGLE, 1, 0, 9), **dict(base, table=table(s1=TOP, s5=16), reads=[15, 0, 0]))
-    held((SINGLE, 1, 0, 9), **dict(base, table=table(s3=TOP), reads=[TOP, 0, 0]))
-    held((PAIRED, 1, 0, 9), **dict(base, table=table(q3=TOP, r1=TOP, r5=1), reads=[0, TOP, 0]))
-    held((PAIRED, 1, 0, 9), **dict(base, table=table(q3=TOP, r1=TOP - 1, r5=1), reads=[0, TOP, TOP]))
-    held((SINGLE, 1, 0, 9), **dict(base, table=table(s0=TOP, s1=4, q1=TOP, q2=TOP), reads=[4, 3, 2]))
+    for plain in (0, 1):
+        held((SINGLE, 1, 0, 9), plain, **dict(base, table=table(s1=TOP, s2=1), reads=[0, 0, 0]))
+        held((SINGLE, 1, 0, 9), plain, **dict(base, table=table(s1=TOP, s5=16), reads=[15, 0, 0]))
+        held((SINGLE, 1, 0, 9), plain, **dict(base, table=table(s3=TOP), reads=[TOP, 0, 0]))
+        held((PAIRED, 1, 0, 9), plain, **dict(base, table=table(q3=TOP, r1=TOP, r5=1), reads=[0, TOP, 0]))
+        held((PAIRED, 1, 0, 9), plain, **dict(base, table=table(q3=TOP, r1=TOP - 1, r5=1), reads=[0, TOP, TOP]))
+        held((SINGLE, 1, 0, 9), plain, **dict(base, table=table(s0=TOP, s1=4, q1=TOP, q2=TOP), reads=[4, 3, 2]))
     yield c
     for k in range(3):
         for at, n in ((0, TOP), (4, TOP), (1, TOP - 1)):
@@ -808,6 +841,32 @@ def none():
             c = Case(targets).open(PAIRED, remap, plain=plain)
             c.fragment(0, pair(P, b"G"), entries=18, plain=plain).fragment(1, pair(b"GG", P), entries=7, plain=plain)
             yield c.fragment(2, pair(b"N", b"C"), entries=8, plain=plain).finish(plain).apply()
+    # books that are full, or apart, with no target
+    for plain in (0, 1):
+        c = Case([]).raw((SINGLE, 1, 0, 9), 5, 0, table(s3=TOP), [TOP, 0, 0]).fragment(6, s(b"ACG"), entries=5, plain=plain).finish(plain)
+        for k in range(3):
+            c.raw((SINGLE, 1, 0, 9), totals=[int(k == j) for j in range(3)]).finish(plain).apply()
+        yield c
+
+
+def second():
+    """The read behind a single one is not looked at."""
+    for remap, plain in itertools.product((1, 0), (0, 1)):
+        c = Case(BOARD).open(SINGLE, remap, plain=plain)
+        behind = ((b"A" * 65536, None), (b"", None), (b"ACG", b"!"), (b"ACG", b"\x7f\x7f\x7f"), (b"NN", b"\0\0"))
+        for i, (bases, qualities) in enumerate(behind):
+            c.fragment(i, [read(S, b"ACG"), read(i % 3, bases, qualities)], 1, 17, plain=plain)
+        yield c.finish(plain).apply()
+
+
+def mixed():
+    """Each call is what its own lists say, whichever audit the state comes from."""
+    for plain in (0, 1):
+        c = Case(MANY).open(PAIRED, plain=plain).fragment(1, pair(ONCE, FOUR), plain=1 - plain).finish(plain).finish(1 - plain)
+        c.fragment(2, pair(TWICE, NONE), plain=plain).fragment(3, pair(ON_A, b"N"), plain=1 - plain)
+        for audit in (0, 1):
+            c.fragment(4 + audit, pair(FOUR, TWICE), columns=(1, 1, 1), plain=audit).finish(audit, columns=(1, 1, 1)).apply()
+        yield c.open(PAIRED, columns=(1, 1, 1), plain=plain).fragment(7, pair(P, Q), plain=1 - plain).finish(plain).apply()
 
 
 def indeterminate():
@@ -871,8 +930,8 @@ def turned_bytes(bases):
 
 def main():
     groups = [
-        example, board, openings, faults, reads, long_reads, rooms, ordinals, roles, full, apart_cases, finishes, applies, off, none,
-        indeterminate, random_runs,
+        example, board, openings, faults, alone, reads, second, long_reads, rooms, ordinals, roles, full, apart_cases, finishes,
+        applies, off, none, indeterminate, mixed, random_runs,
     ]
     data, lines, answers = b"", [], []
     for group in groups:
@@ -886,7 +945,7 @@ def main():
         refused = [int(a.split()[1]) for c, a in answers if c == call and a.startswith("refused")]
         print(call, sum(c == call for c, _ in answers), "refused", len(refused), "by", *sorted(set(refused)))
     print("calls", len(answers), "bytes", len(data), "lines", len(lines))
-    assert len(data) <= 131072
+    assert len(data) <= 196608
     here.joinpath("stdin").write_bytes(data)
     here.joinpath("stdout").write_text("".join(text + "\n" for text in lines))
 

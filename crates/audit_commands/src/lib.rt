@@ -4,25 +4,19 @@
 //    indeterminate; counts by role and state, reads by role, three totals.
 // 2 to 5 are calls: 1 for the plain audit; how much is lent of the entries or rows, of the counters, of the columns. Then
 // 2, opening: mode, remap, floor, limit.
-// 3, fragment: ordinal and number of reads; for each of two reads role, whether qualities are present, how often its first
-//    byte comes again in its stead, lengths of bases and qualities; then these four lists.
+// 3, fragment: ordinal and number of reads; for each of two reads role, whether qualities are present, how often its last
+//    base comes again behind it, lengths of bases and qualities; then these four lists.
 // 4, finish: nothing more.
 // 5, rows of the targets: the targets now, or nothing for the targets of the case.
-// Ordinals, number of reads, limit and what a list is set to have eight bytes; places, how often a byte comes again, the
+// Ordinals, number of reads, limit and what a list is set to have eight bytes; places, how often a base comes again, the
 // counts of a state and what stands in a catalogue have two; all else has one. A count of a state from 32768 on stands for
 // one as far below the greatest of 64 bits as it is below 65535.
 ghost use Prim.Native.Nat.{_≤_};
 ghost use lib.ListN.{length};
-use audit_calls::FragmentHead;
-use audit_calls::run_apply;
 use audit_calls::run_finish;
-use audit_calls::run_fragment;
 use audit_calls::run_open;
 use audit_numbers::eight;
-use audit_numbers::end_count;
-use audit_numbers::head_of;
 use audit_numbers::is_set;
-use audit_numbers::part_end;
 use audit_numbers::settings_of;
 use audit_numbers::state_of;
 use audit_rules::settings::AuditInputMode;
@@ -34,11 +28,12 @@ use audit_rules::sheet::Sheet;
 use audit_rules::sheet::Shown;
 use audit_rules::sheet::Status;
 use case_calls::number;
-use case_calls::read_ends;
 use case_calls::wide;
 use case_maps::at_most;
 use case_maps::put;
+use fragment_commands::fragment_command;
 use ledger::Ledger;
+use sheet_commands::apply_command;
 
 // What a command leaves to the next.
 pub struct Held {
@@ -191,247 +186,6 @@ fn open_command(
     with_state(held, state)
 }
 
-// A fragment in entries that hold 999.
-fn lent_entries(
-    placements: &mut [u64],
-    singles: &mut [u64],
-    multi: &mut [u64],
-    keys: &[u64],
-    ranks: &[u64],
-    positions: &[u64],
-    identifiers: &[u8],
-    identifier_ends: &[usize],
-    bases: &[u8],
-    base_ends: &[usize],
-    marks: &[u8],
-    first: &[u8],
-    first_qualities: &[u8],
-    second: &[u8],
-    second_qualities: &[u8],
-    entries: usize,
-    head: FragmentHead,
-    state: AuditState,
-) -> AuditState {
-    let mut lent = [999u64; 256];
-    let e = at_most(entries, 256);
-    run_fragment(
-        &mut lent[..e],
-        placements,
-        singles,
-        multi,
-        keys,
-        ranks,
-        positions,
-        identifiers,
-        identifier_ends,
-        bases,
-        base_ends,
-        marks,
-        first,
-        first_qualities,
-        second,
-        second_qualities,
-        head,
-        state,
-    )
-}
-
-// The second read as it stands, or its first byte again and again.
-fn second_read(
-    placements: &mut [u64],
-    singles: &mut [u64],
-    multi: &mut [u64],
-    keys: &[u64],
-    ranks: &[u64],
-    positions: &[u64],
-    identifiers: &[u8],
-    identifier_ends: &[usize],
-    bases: &[u8],
-    base_ends: &[usize],
-    marks: &[u8],
-    first: &[u8],
-    first_qualities: &[u8],
-    second: &[u8],
-    second_qualities: &[u8],
-    more: usize,
-    entries: usize,
-    head: FragmentHead,
-    state: AuditState,
-) -> AuditState {
-    if more == 0 {
-        return lent_entries(
-            placements,
-            singles,
-            multi,
-            keys,
-            ranks,
-            positions,
-            identifiers,
-            identifier_ends,
-            bases,
-            base_ends,
-            marks,
-            first,
-            first_qualities,
-            second,
-            second_qualities,
-            entries,
-            head,
-            state,
-        );
-    }
-    if second.len() < 1 {
-        put(b"short\n");
-        return state;
-    }
-    let long = [second[0]; 65536];
-    let n = at_most(more, 65535) + 1;
-    lent_entries(
-        placements,
-        singles,
-        multi,
-        keys,
-        ranks,
-        positions,
-        identifiers,
-        identifier_ends,
-        bases,
-        base_ends,
-        marks,
-        first,
-        first_qualities,
-        &long[..n],
-        second_qualities,
-        entries,
-        head,
-        state,
-    )
-}
-
-// The same for the first read.
-fn first_read(
-    placements: &mut [u64],
-    singles: &mut [u64],
-    multi: &mut [u64],
-    keys: &[u64],
-    ranks: &[u64],
-    positions: &[u64],
-    identifiers: &[u8],
-    identifier_ends: &[usize],
-    bases: &[u8],
-    base_ends: &[usize],
-    marks: &[u8],
-    first: &[u8],
-    first_qualities: &[u8],
-    second: &[u8],
-    second_qualities: &[u8],
-    more: usize,
-    second_more: usize,
-    entries: usize,
-    head: FragmentHead,
-    state: AuditState,
-) -> AuditState {
-    if more == 0 {
-        return second_read(
-            placements,
-            singles,
-            multi,
-            keys,
-            ranks,
-            positions,
-            identifiers,
-            identifier_ends,
-            bases,
-            base_ends,
-            marks,
-            first,
-            first_qualities,
-            second,
-            second_qualities,
-            second_more,
-            entries,
-            head,
-            state,
-        );
-    }
-    if first.len() < 1 {
-        put(b"short\n");
-        return state;
-    }
-    let long = [first[0]; 65536];
-    let n = at_most(more, 65535) + 1;
-    second_read(
-        placements,
-        singles,
-        multi,
-        keys,
-        ranks,
-        positions,
-        identifiers,
-        identifier_ends,
-        bases,
-        base_ends,
-        marks,
-        &long[..n],
-        first_qualities,
-        second,
-        second_qualities,
-        second_more,
-        entries,
-        head,
-        state,
-    )
-}
-
-fn fragment_command(
-    placements: &mut [u64],
-    singles: &mut [u64],
-    multi: &mut [u64],
-    keys: &[u64],
-    ranks: &[u64],
-    positions: &[u64],
-    identifiers: &[u8],
-    identifier_ends: &[usize],
-    bases: &[u8],
-    base_ends: &[usize],
-    marks: &[u8],
-    s: &[u8],
-    held: Held,
-) -> Held {
-    if s.len() < 37 {
-        put(b"short\n");
-        return held;
-    }
-    let first = part_end(s, 37, wide(s[29]));
-    let first_qualities = part_end(s, first, wide(s[30]));
-    let second = part_end(s, first_qualities, wide(s[35]));
-    let second_qualities = part_end(s, second, wide(s[36]));
-    let state = held.state;
-    let left = first_read(
-        placements,
-        singles,
-        multi,
-        keys,
-        ranks,
-        positions,
-        identifiers,
-        identifier_ends,
-        bases,
-        base_ends,
-        marks,
-        &s[37..first],
-        &s[first..first_qualities],
-        &s[first_qualities..second],
-        &s[second..second_qualities],
-        number(s, 27),
-        number(s, 33),
-        wide(s[2]),
-        head_of(s),
-        state,
-    );
-    with_state(held, left)
-}
-
 fn finish_command(
     placements: &[u64],
     singles: &[u64],
@@ -464,101 +218,6 @@ fn finish_command(
         state,
     );
     with_sheet(held, sheet)
-}
-
-// The targets now written in a command, in rows that hold 999.
-fn apply_written(
-    placements: &[u64],
-    singles: &[u64],
-    multi: &[u64],
-    identifiers: &[u8],
-    identifier_ends: &[usize],
-    bases: &[u8],
-    base_ends: &[usize],
-    marks: &[u8],
-    s: &[u8],
-    sheet: Sheet,
-)
-    requires { ⌜ 19 ≤ length (now s) ⌝ }
-{
-    let mut rows = [999u64; 256];
-    let r = at_most(wide(s[2]), 256);
-    let names = part_end(s, 19, number(s, 9));
-    let i = end_count(s, names, number(s, 11));
-    let sequences = names + i * 2;
-    let behind = part_end(s, sequences, number(s, 13));
-    let b = end_count(s, behind, number(s, 15));
-    let after = behind + b * 2;
-    let end = part_end(s, after, number(s, 17));
-    let name_ends = read_ends(&s[names..sequences], i);
-    let sequence_ends = read_ends(&s[behind..after], b);
-    run_apply(
-        &mut rows[..r],
-        placements,
-        singles,
-        multi,
-        identifiers,
-        identifier_ends,
-        bases,
-        base_ends,
-        marks,
-        &s[19..names],
-        &name_ends[..i],
-        &s[sequences..behind],
-        &sequence_ends[..b],
-        &s[after..end],
-        sheet,
-    );
-}
-
-fn apply_command(
-    placements: &[u64],
-    singles: &[u64],
-    multi: &[u64],
-    identifiers: &[u8],
-    identifier_ends: &[usize],
-    bases: &[u8],
-    base_ends: &[usize],
-    marks: &[u8],
-    s: &[u8],
-    held: Held,
-)
-    requires { ⌜ 9 ≤ length (now s) ⌝ }
-{
-    let sheet = held.sheet;
-    if s.len() >= 19 {
-        return apply_written(
-            placements,
-            singles,
-            multi,
-            identifiers,
-            identifier_ends,
-            bases,
-            base_ends,
-            marks,
-            s,
-            sheet,
-        );
-    }
-    let mut rows = [999u64; 256];
-    let r = at_most(wide(s[2]), 256);
-    run_apply(
-        &mut rows[..r],
-        placements,
-        singles,
-        multi,
-        identifiers,
-        identifier_ends,
-        bases,
-        base_ends,
-        marks,
-        identifiers,
-        identifier_ends,
-        bases,
-        base_ends,
-        marks,
-        sheet,
-    );
 }
 
 // A call with what is lent to it.
@@ -598,7 +257,8 @@ fn lent_call(
         );
     }
     if code == 3 {
-        return fragment_command(
+        let state = held.state;
+        let left = fragment_command(
             placements,
             singles,
             multi,
@@ -611,8 +271,9 @@ fn lent_call(
             base_ends,
             marks,
             s,
-            held,
+            state,
         );
+        return with_state(held, left);
     }
     if code == 4 {
         return finish_command(
@@ -631,6 +292,7 @@ fn lent_call(
             held,
         );
     }
+    let sheet = held.sheet;
     apply_command(
         placements,
         singles,
@@ -641,7 +303,7 @@ fn lent_call(
         base_ends,
         marks,
         s,
-        held,
+        sheet,
     );
     held
 }

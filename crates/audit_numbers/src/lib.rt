@@ -3,7 +3,6 @@ ghost use Prim.Native.Nat.{_+_, _*_, _<_, _≤_};
 ghost use mathlib.Core.Path.{_≡_};
 ghost use lib.ListN.{length};
 ghost use Rattle.promises.specs.Slice.{old};
-use audit_calls::FragmentHead;
 use audit_rules::settings::AuditInputMode;
 use audit_rules::settings::AuditState;
 use audit_rules::settings::LastOrdinal;
@@ -11,6 +10,7 @@ use audit_rules::settings::MateRole;
 use audit_rules::settings::Settings;
 use case_calls::number;
 use case_maps::at_most;
+use fragment_calls::FragmentHead;
 use ledger::Ledger;
 
 // Half a number of eight bytes.

@@ -220,7 +220,7 @@ fn run_cases(s: &[u8]) {
 
 // Runs the cases of standard input, up to a block of bytes.
 pub fn run_block() {
-    let mut block = [0u8; 131072];
+    let mut block = [0u8; 196608];
     let n = io::read_full(STDIN_FILENO, &mut block);
     run_cases(&block[..n]);
 }

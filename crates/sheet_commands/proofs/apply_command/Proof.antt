@@ -1,11 +1,11 @@
--- `audit_commands::apply_command` is safe and ends. The first numbers of an array are as many as are taken.
+-- `sheet_commands::apply_command` is safe and ends. The first numbers of an array are as many as are taken.
 -- Assumes nothing.
 use native.Mathlib.Omega.{arith}
 use lib.Seq.{length-take-le}
 use mathlib.Core.Path.{sym}
 use borrow.Author.Needs.{needs}
-use Rattle.audit_commands.proofs.apply_command.Statement.{statement}
-use Rattle.audit_commands.proofs.apply_command.Tie as tie
+use Rattle.sheet_commands.proofs.apply_command.Statement.{statement}
+use Rattle.sheet_commands.proofs.apply_command.Tie as tie
 
 apply-written-requires : tie.Need-apply-written-requires
 apply-written-requires c κs = search needs

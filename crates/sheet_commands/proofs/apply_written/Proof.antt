@@ -1,11 +1,11 @@
--- `audit_commands::apply_written` is safe and ends. The first numbers of an array are as many as are taken.
+-- `sheet_commands::apply_written` is safe and ends. The first numbers of an array are as many as are taken.
 -- Assumes nothing.
 use native.Mathlib.Omega.{arith}
 use lib.Seq.{length-take-le}
 use mathlib.Core.Path.{sym}
 use borrow.Author.Needs.{needs}
-use Rattle.audit_commands.proofs.apply_written.Statement.{statement}
-use Rattle.audit_commands.proofs.apply_written.Tie as tie
+use Rattle.sheet_commands.proofs.apply_written.Statement.{statement}
+use Rattle.sheet_commands.proofs.apply_written.Tie as tie
 
 shared-slice-read-wide : tie.Need-shared-slice-read-wide
 shared-slice-read-wide c = search needs
