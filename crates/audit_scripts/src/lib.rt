@@ -5,14 +5,14 @@
 ghost use Prim.Native.Nat.{_<_, _≤_};
 ghost use lib.ListN.{length};
 ghost use Rattle.promises.specs.Slice.{old};
-use audit_commands::Held;
-use audit_commands::nothing_held;
 use audit_commands::run_command;
 use audit_numbers::end_count;
 use audit_numbers::part_end;
 use case_calls::number;
 use case_calls::read_ends;
 use case_maps::put;
+use lent_calls::Held;
+use lent_calls::nothing_held;
 use libc::STDIN_FILENO;
 use postings::build;
 

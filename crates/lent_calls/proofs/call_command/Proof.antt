@@ -1,11 +1,11 @@
--- `audit_commands::call_command` is safe and ends. The first numbers of a list are as many as are taken.
+-- `lent_calls::call_command` is safe and ends. The first numbers of a list are as many as are taken.
 -- Assumes nothing.
 use native.Mathlib.Omega.{arith}
 use lib.Seq.{length-take-le}
 use mathlib.Core.Path.{sym}
 use borrow.Author.Needs.{needs}
-use Rattle.audit_commands.proofs.call_command.Statement.{statement}
-use Rattle.audit_commands.proofs.call_command.Tie as tie
+use Rattle.lent_calls.proofs.call_command.Statement.{statement}
+use Rattle.lent_calls.proofs.call_command.Tie as tie
 
 shared-slice-read-wide : tie.Need-shared-slice-read-wide
 shared-slice-read-wide c = search needs
