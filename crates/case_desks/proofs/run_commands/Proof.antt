@@ -1,10 +1,10 @@
--- `audit_scripts::run_commands` is safe and ends. The invariant: the next command starts at most at the end.
+-- `case_desks::run_commands` is safe and ends. The invariant: the next command starts at most at the end.
 -- Assumes nothing.
 use borrow.Author.Needs.{needs}
 use Prim.Native.Nat.{_≤_, _-_}
 use lib.ListN.{length}
-use Rattle.audit_scripts.proofs.run_commands.Statement.{statement}
-use Rattle.audit_scripts.proofs.run_commands.Tie as tie
+use Rattle.case_desks.proofs.run_commands.Statement.{statement}
+use Rattle.case_desks.proofs.run_commands.Tie as tie
 
 abbrev Inv-loop : tie.InvT-loop
 Inv-loop identifiers identifier-ends bases base-ends marks s desk₀ at₀ desk at = at ≤ length s
