@@ -1,4 +1,6 @@
 // What the calls of an audit answer and leave, written as lines of numbers.
+ghost use mathlib.Core.Bool.{cond};
+ghost use mathlib.Core.Path.{_≡_};
 use answers::answer::Mapping;
 use audit_rules::calls::CallAnswer;
 use audit_rules::calls::FragmentAnswer;
@@ -23,7 +25,9 @@ fn mode_number(mode: AuditInputMode) -> u64 {
     }
 }
 
-fn flag_number(flag: bool) -> u64 {
+fn flag_number(flag: bool) -> u64
+    ensures { λ r. ⌜ r ≡ cond flag 1 0 ⌝ }
+{
     if flag { 1 } else { 0 }
 }
 

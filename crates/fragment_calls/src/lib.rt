@@ -1,4 +1,10 @@
 // Audits a fragment, by the index or plain, and writes what the call answers and leaves.
+ghost use mathlib.Core.Bool.{not};
+ghost use Rattle.promises.specs.Slice.{old, new};
+ghost use Rattle.catalogue.specs.Catalogue.{lentCatalogue};
+ghost use Rattle.ledger.specs.Booking.{leftCounters};
+ghost use Rattle.audit_rules.specs.Settings.{auditSeed, auditOffset};
+ghost use Rattle.audit_rules.specs.Calls.{lentHeld, lentIndex, lentMate, fragmentOf, Audits};
 use audit::fragment;
 use audit::plain_fragment;
 use audit_lines::put_counters;
@@ -39,7 +45,14 @@ fn fragment_of(
     second_qualities: &[u8],
     head: FragmentHead,
     state: AuditState,
-) -> FragmentAudit {
+) -> FragmentAudit
+    ensures { λ r. ⌜ Audits auditSeed auditOffset (lentCatalogue identifiers «identifier_ends» bases «base_ends» marks) (lentIndex (not (head .plain)) keys ranks positions)
+        (lentHeld state placements singles multi)
+        (fragmentOf (head .ordinal) (head .count)
+        (lentMate (head .«first_role») first (head .«first_present») «first_qualities»)
+        (lentMate (head .«second_role») second (head .«second_present») «second_qualities»))
+        (old entries) r (leftCounters placements singles multi) (new entries) ⌝ }
+{
     let first_role = head.first_role;
     let second_role = head.second_role;
     if head.plain {

@@ -1,8 +1,6 @@
 // Runs a call of an audit that is written as bytes, and keeps state and sheet; audit_commands says how it is written.
 ghost use Prim.Native.Nat.{_≤_};
 ghost use lib.ListN.{length};
-use audit_calls::run_finish;
-use audit_calls::run_open;
 use audit_numbers::is_set;
 use audit_numbers::settings_of;
 use audit_rules::settings::AuditInputMode;
@@ -16,8 +14,10 @@ use audit_rules::sheet::Status;
 use case_calls::wide;
 use case_maps::at_most;
 use case_maps::put;
+use finish_calls::run_finish;
 use fragment_commands::fragment_command;
 use ledger::Ledger;
+use opening_calls::run_open;
 use sheet_commands::apply_command;
 
 // What a command leaves to the next.

@@ -1,7 +1,6 @@
 // Applies the sheet of a finished audit by a command that is written as bytes; audit_commands says how.
 ghost use Prim.Native.Nat.{_≤_};
 ghost use lib.ListN.{length};
-use audit_calls::run_apply;
 use audit_numbers::end_count;
 use audit_numbers::part_end;
 use audit_rules::sheet::Sheet;
@@ -9,6 +8,7 @@ use case_calls::number;
 use case_calls::read_ends;
 use case_calls::wide;
 use case_maps::at_most;
+use finish_calls::run_apply;
 
 // The targets now written in a command, in rows that hold 999.
 fn apply_written(

@@ -1,101 +1,17 @@
-// Opens or finishes an audit, by the index or plain, or applies its sheet, and writes what the call answers and leaves.
+// Finishes an audit, by the index or plain, or applies its sheet, and writes what the call answers and leaves.
+ghost use mathlib.Core.Bool.{not};
+ghost use Rattle.catalogue.specs.Catalogue.{lentCatalogue};
+ghost use Rattle.audit_rules.specs.Settings.{auditSeed, auditOffset};
+ghost use Rattle.audit_rules.specs.Calls.{lentHeld, lentIndex, Finishes};
 use audit::finish;
-use audit::open;
 use audit::plain_finish;
-use audit::plain_open;
 use audit_lines::put_call;
-use audit_lines::put_counters;
 use audit_lines::put_sheet;
-use audit_lines::put_state;
 use audit_rules::calls::Finish;
-use audit_rules::calls::Opening;
 use audit_rules::settings::AuditState;
-use audit_rules::settings::Settings;
 use audit_rules::sheet::Sheet;
 use case_maps::put_numbers;
 use unitigs::apply_to_unitigs;
-
-fn opening_of(
-    placements: &mut [u64],
-    singles: &mut [u64],
-    multi: &mut [u64],
-    keys: &[u64],
-    ranks: &[u64],
-    positions: &[u64],
-    identifiers: &[u8],
-    identifier_ends: &[usize],
-    bases: &[u8],
-    base_ends: &[usize],
-    marks: &[u8],
-    plain: bool,
-    settings: Settings,
-) -> Opening {
-    if plain {
-        return plain_open(
-            placements,
-            singles,
-            multi,
-            identifiers,
-            identifier_ends,
-            bases,
-            base_ends,
-            marks,
-            settings,
-        );
-    }
-    open(
-        placements,
-        singles,
-        multi,
-        keys,
-        ranks,
-        positions,
-        identifiers,
-        identifier_ends,
-        bases,
-        base_ends,
-        marks,
-        settings,
-    )
-}
-
-pub fn run_open(
-    placements: &mut [u64],
-    singles: &mut [u64],
-    multi: &mut [u64],
-    keys: &[u64],
-    ranks: &[u64],
-    positions: &[u64],
-    identifiers: &[u8],
-    identifier_ends: &[usize],
-    bases: &[u8],
-    base_ends: &[usize],
-    marks: &[u8],
-    plain: bool,
-    settings: Settings,
-) -> AuditState {
-    let opening = opening_of(
-        placements,
-        singles,
-        multi,
-        keys,
-        ranks,
-        positions,
-        identifiers,
-        identifier_ends,
-        bases,
-        base_ends,
-        marks,
-        plain,
-        settings,
-    );
-    let answer = opening.answer;
-    let state = opening.state;
-    put_call(answer, b"opened");
-    put_state(state);
-    put_counters(placements, singles, multi);
-    state
-}
 
 fn finish_of(
     placements: &[u64],
@@ -111,7 +27,10 @@ fn finish_of(
     marks: &[u8],
     plain: bool,
     state: AuditState,
-) -> Finish {
+) -> Finish
+    ensures { λ r. ⌜ Finishes auditSeed auditOffset (lentCatalogue identifiers «identifier_ends» bases «base_ends» marks) (lentIndex (not plain) keys ranks positions)
+        (lentHeld state placements singles multi) r ⌝ }
+{
     if plain {
         return plain_finish(
             placements,
