@@ -5,9 +5,10 @@ A case is a catalogue and a list of commands; audit_scripts and audit_commands s
 command is run on a model of the audit as it is written. The model knows the rules alone.
 
 Of each call the answer is compared, and whole, as it stands afterwards, all that is lent to it to be written: state,
-counters, entries, rows; these hold other numbers before. The cases cover, by the index and plain:
-- each refusal that an audit gives, 2 to 4, 6, 7, 9 to 19, alone and with each that is tested behind it;
-- 17 at each number of the ledger and each counter: for one read, for one of a pair, for both together alone;
+counters, entries, rows. Entries and rows hold 999 before. The cases cover, by the index and plain:
+- each refusal that an audit gives, 2 to 4, 6 (by the index), 7, 9 to 19, alone and with each that is tested behind it;
+- 17 at counts by state, reads by role, totals and counters: for one read, for one of a pair, and for both of a pair
+  together where neither alone is too many;
 - 18 by rows, by each column of counters, by sums that pass the top; states that no run gives, with settings out of bounds;
 - pairs, odd numbers of entries, numbers behind the last whole entry, entries and limits around the matches;
 - remap off: empty, long and unreadable reads, no index; closed walks; no target at all; reads of every state;

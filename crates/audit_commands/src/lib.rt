@@ -16,9 +16,9 @@ use audit_numbers::state_of;
 use case_calls::number;
 use case_maps::at_most;
 use case_maps::put;
-use lent_calls::Held;
+use held_calls::Held;
+use held_calls::with_state;
 use lent_calls::call_command;
-use lent_calls::with_state;
 
 // Sets numbers from a place on to a value.
 fn fill(numbers: &mut [u64], from: usize, to: usize, value: u64) {

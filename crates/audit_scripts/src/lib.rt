@@ -12,7 +12,7 @@ use case_desks::Desk;
 use case_desks::next_at;
 use case_desks::run_commands;
 use case_maps::put;
-use lent_calls::nothing_held;
+use held_calls::nothing_held;
 use libc::STDIN_FILENO;
 use postings::build;
 

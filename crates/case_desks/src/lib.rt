@@ -6,7 +6,7 @@ ghost use Rattle.promises.specs.Slice.{old};
 use audit_commands::run_command;
 use audit_numbers::part_end;
 use case_calls::number;
-use lent_calls::Held;
+use held_calls::Held;
 
 // What one command leaves to the next: the counters, the columns, state and sheet.
 pub struct Desk {

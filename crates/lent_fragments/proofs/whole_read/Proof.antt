@@ -1,11 +1,11 @@
--- `fragment_commands::whole_read` meets its contract. The invariant: the count is within the room, which keeps its length.
+-- `lent_fragments::whole_read` meets its contract. The invariant: the count is within the room, which keeps its length.
 -- Assumes nothing.
 use mathlib.Core.Path.{_≡_}
 use borrow.Author.Needs.{needs}
 use Prim.Native.Nat.{_≤_, _<_, _-_}
 use lib.ListN.{length}
-use Rattle.fragment_commands.proofs.whole_read.Statement.{statement}
-use Rattle.fragment_commands.proofs.whole_read.Tie as tie
+use Rattle.lent_fragments.proofs.whole_read.Statement.{statement}
+use Rattle.lent_fragments.proofs.whole_read.Tie as tie
 
 abbrev Inv-loop : tie.InvT-loop
 Inv-loop room₀ written more last n i₀ room i = (n ≤ length room₀) × ((last < length written) × (length room ≡ length room₀))

@@ -1,11 +1,11 @@
--- `fragment_commands::lent_fragment` is safe and ends. The first numbers of an array are as many as are taken.
+-- `lent_fragments::lent_fragment` is safe and ends. The first numbers of an array are as many as are taken.
 -- Assumes nothing.
 use native.Mathlib.Omega.{arith}
 use lib.Seq.{length-take-le}
 use mathlib.Core.Path.{sym}
 use borrow.Author.Needs.{needs}
-use Rattle.fragment_commands.proofs.lent_fragment.Statement.{statement}
-use Rattle.fragment_commands.proofs.lent_fragment.Tie as tie
+use Rattle.lent_fragments.proofs.lent_fragment.Statement.{statement}
+use Rattle.lent_fragments.proofs.lent_fragment.Tie as tie
 
 slice-aggregate-whole-read : tie.Need-slice-aggregate-whole-read
 slice-aggregate-whole-read c = search needs
