@@ -10,13 +10,13 @@ plain-finish-requires : tie.Need-plain-finish-requires
 plain-finish-requires c κs = search needs
 
 returns : tie.Need-returns
-returns c = let asked : c .before .before .before .before .before .before .before .before .before .before .before .before .before .args .plain ≡ true = search needs in rw asked (c .plain-finish .ensures)
+returns c = let asked : c .before .before .before .before .before .before .before .before .before .before .before .before .before .args .plain ≡ true = c .before .if1 .taken in rw asked (c .plain-finish .ensures)
 
 finish-requires : tie.Need-finish-requires
 finish-requires c κs = search needs
 
 returns-2 : tie.Need-returns-2
-returns-2 c = let asked : c .before .before .before .before .before .before .before .before .before .before .before .before .before .args .plain ≡ false = search needs in rw asked (c .finish .ensures)
+returns-2 c = let asked : c .before .before .before .before .before .before .before .before .before .before .before .before .before .args .plain ≡ false = c .before .if1 .left in rw asked (c .finish .ensures)
 
 pub finish-of-spec : {M : Type 1} → statement M
 finish-of-spec = tie.close (tie.spec plain-finish-requires returns finish-requires returns-2)

@@ -22,7 +22,7 @@ same-length-4 : tie.Need-same-length-4
 same-length-4 c = search needs
 
 returns : tie.Need-returns
-returns c = let asked : c .before .before .before .before .before .before .before .before .before .before .before .before .before .before .before .before .before .before .before .before .before .before .before .before .before .before .before .before .before .before .args .head .plain ≡ true = search needs in rw asked (c .before .before .before .before .before .before .before .before .plain-fragment .ensures)
+returns c = let asked : c .before .before .before .before .before .before .before .before .before .before .before .before .before .before .before .before .before .before .before .before .before .before .before .before .before .before .before .before .before .before .args .head .plain ≡ true = c .before .before .before .before .before .before .before .before .before .before .before .before .before .if1 .taken in rw asked (c .before .before .before .before .before .before .before .before .plain-fragment .ensures)
 
 fragment-requires : tie.Need-fragment-requires
 fragment-requires c κs = search needs
@@ -40,7 +40,7 @@ same-length-8 : tie.Need-same-length-8
 same-length-8 c = search needs
 
 returns-2 : tie.Need-returns-2
-returns-2 c = let asked : c .before .before .before .before .before .before .before .before .before .before .before .before .before .before .before .before .before .before .before .before .before .before .before .before .before .before .before .before .before .before .args .head .plain ≡ false = search needs in rw asked (c .before .before .before .before .before .before .before .before .fragment .ensures)
+returns-2 c = let asked : c .before .before .before .before .before .before .before .before .before .before .before .before .before .before .before .before .before .before .before .before .before .before .before .before .before .before .before .before .before .before .args .head .plain ≡ false = c .before .before .before .before .before .before .before .before .before .before .before .before .before .if1 .left in rw asked (c .before .before .before .before .before .before .before .before .fragment .ensures)
 
 pub fragment-of-spec : {M : Type 1} → statement M
 fragment-of-spec =

@@ -19,7 +19,7 @@ same-length-3 : tie.Need-same-length-3
 same-length-3 c = search needs
 
 returns : tie.Need-returns
-returns c = let asked : c .before .before .before .before .before .before .before .before .before .before .before .before .before .before .before .before .before .before .before .before .before .before .args .plain ≡ true = search needs in rw asked (c .before .before .before .before .before .before .plain-open .ensures)
+returns c = let asked : c .before .before .before .before .before .before .before .before .before .before .before .before .before .before .before .before .before .before .before .before .before .before .args .plain ≡ true = c .before .before .before .before .before .before .before .before .before .before .if1 .taken in rw asked (c .before .before .before .before .before .before .plain-open .ensures)
 
 open-requires : tie.Need-open-requires
 open-requires c κs = search needs
@@ -34,7 +34,7 @@ same-length-6 : tie.Need-same-length-6
 same-length-6 c = search needs
 
 returns-2 : tie.Need-returns-2
-returns-2 c = let asked : c .before .before .before .before .before .before .before .before .before .before .before .before .before .before .before .before .before .before .before .before .before .before .args .plain ≡ false = search needs in rw asked (c .before .before .before .before .before .before .«open» .ensures)
+returns-2 c = let asked : c .before .before .before .before .before .before .before .before .before .before .before .before .before .before .before .before .before .before .before .before .before .before .args .plain ≡ false = c .before .before .before .before .before .before .before .before .before .before .if1 .left in rw asked (c .before .before .before .before .before .before .«open» .ensures)
 
 pub opening-of-spec : {M : Type 1} → statement M
 opening-of-spec =
