@@ -468,4 +468,5 @@ def main():
     print("bytes", len(data), "lines", len(lines))
 
 
-main()
+if __name__ == "__main__":
+    main()

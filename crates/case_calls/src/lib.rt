@@ -13,21 +13,23 @@ use case_maps::put;
 use case_maps::run_read;
 use libc::STDIN_FILENO;
 
-fn wide(b: u8) -> usize
+// A byte as a number.
+pub fn wide(b: u8) -> usize
     ensures { λ r. ⌜ r < 256 ⌝ }
 {
     b as usize
 }
 
-// The number at a place.
-fn number(s: &[u8], at: usize) -> usize
+// The number of two bytes at a place, the low one first.
+pub fn number(s: &[u8], at: usize) -> usize
     requires { ⌜ at + 1 < length (now s) ⌝ }
     ensures { λ r. ⌜ r < 65536 ⌝ }
 {
     wide(s[at]) + wide(s[at + 1]) * 256
 }
 
-fn read_ends(s: &[u8], n: usize) -> [usize; 16]
+// The numbers of two bytes at the front.
+pub fn read_ends(s: &[u8], n: usize) -> [usize; 16]
     requires { ⌜ (n ≤ 16) × (n * 2 ≤ length (now s)) ⌝ }
     ensures { λ r. ⌜ 16 ≡ length r ⌝ }
 {

@@ -28,16 +28,18 @@ pub fn put(text: &[u8]) {
     io::write_all(STDOUT_FILENO, text);
 }
 
-fn put_number(before: &[u8], n: u64) {
+// A number behind a word.
+pub fn put_number(before: &[u8], n: u64) {
     put(before);
     io::print_decimal(STDOUT_FILENO, n);
 }
 
-fn put_entries(entries: &[u64]) {
-    put(b"entries");
+// A line of numbers behind a word.
+pub fn put_numbers(word: &[u8], numbers: &[u64]) {
+    put(word);
     let mut i = 0;
-    while i < entries.len() {
-        put_number(b" ", entries[i]);
+    while i < numbers.len() {
+        put_number(b" ", numbers[i]);
         i += 1;
     }
     put(b"\n");
@@ -51,7 +53,7 @@ fn put_work(work: MappingWork) {
     put_number(b" ", work.seen);
 }
 
-fn put_mapping(m: Mapping) {
+pub fn put_mapping(m: Mapping) {
     let state = m.state;
     let work = m.work;
     put_number(b"mapped ", state_number(state));
@@ -116,7 +118,7 @@ fn run_map(
         limit,
     );
     put_answer(answer);
-    put_entries(entries);
+    put_numbers(b"entries", entries);
 }
 
 // Lends as much of each buffer as the case says.

@@ -1,19 +1,16 @@
--- `case_maps::put_entries` is safe and ends. The invariant: the place is at most the length.
+-- `case_maps::put_numbers` is safe and ends. The invariant: the place is at most the length.
 -- Assumes nothing.
 use borrow.Author.Needs.{needs}
 use Prim.Native.Nat.{_≤_, _-_}
 use lib.ListN.{length}
-use Rattle.case_maps.proofs.put_entries.Statement.{statement}
-use Rattle.case_maps.proofs.put_entries.Tie as tie
+use Rattle.case_maps.proofs.put_numbers.Statement.{statement}
+use Rattle.case_maps.proofs.put_numbers.Tie as tie
 
 abbrev Inv-loop : tie.InvT-loop
-Inv-loop entries i₀ t3 t4 i = i ≤ length entries
+Inv-loop word numbers i₀ t4 t5 i = i ≤ length numbers
 
 abbrev μ-loop : tie.MeasureT-loop
-μ-loop entries i₀ t3 t4 i = length entries - i
-
-slice-aggregate-put : tie.Need-slice-aggregate-put Inv-loop μ-loop
-slice-aggregate-put c = search needs
+μ-loop word numbers i₀ t4 t5 i = length numbers - i
 
 put-requires : tie.Need-put-requires Inv-loop μ-loop
 put-requires c κs = search needs
@@ -42,8 +39,8 @@ loop-less c = search needs
 loop-again : tie.Need-loop-again Inv-loop μ-loop
 loop-again c = search needs
 
-slice-aggregate-put-2 : tie.Need-slice-aggregate-put-2 Inv-loop μ-loop
-slice-aggregate-put-2 c = search needs
+slice-aggregate-put : tie.Need-slice-aggregate-put Inv-loop μ-loop
+slice-aggregate-put c = search needs
 
 put-requires-2 : tie.Need-put-requires-2 Inv-loop μ-loop
 put-requires-2 c κs = search needs
@@ -51,13 +48,12 @@ put-requires-2 c κs = search needs
 returns : tie.Need-returns Inv-loop μ-loop
 returns c = search needs
 
-pub put-entries-spec : {M : Type 1} → statement M
-put-entries-spec =
+pub put-numbers-spec : {M : Type 1} → statement M
+put-numbers-spec =
     tie.close
     (tie.spec
     Inv-loop
     μ-loop
-    slice-aggregate-put
     put-requires
     loop-holds
     slice-aggregate-put-number
@@ -67,6 +63,6 @@ put-entries-spec =
     add-i
     loop-less
     loop-again
-    slice-aggregate-put-2
+    slice-aggregate-put
     put-requires-2
     returns)

@@ -1,0 +1,157 @@
+// Numbers, settings and states read from bytes, the low byte of a number first.
+ghost use Prim.Native.Nat.{_+_, _*_, _<_, _≤_};
+ghost use mathlib.Core.Path.{_≡_};
+ghost use lib.ListN.{length};
+ghost use Rattle.promises.specs.Slice.{old};
+use audit_rules::settings::AuditInputMode;
+use audit_rules::settings::AuditState;
+use audit_rules::settings::LastOrdinal;
+use audit_rules::settings::MateRole;
+use audit_rules::settings::Settings;
+use case_calls::number;
+use case_maps::at_most;
+use fragment_calls::FragmentHead;
+use ledger::Ledger;
+
+// Half a number of eight bytes.
+fn half(s: &[u8], at: usize) -> usize
+    requires { ⌜ at + 3 < length (now s) ⌝ }
+    ensures { λ r. ⌜ r < 4294967296 ⌝ }
+{
+    number(s, at) + number(s, at + 2) * 65536
+}
+
+// The number of eight bytes at a place.
+pub fn eight(s: &[u8], at: usize) -> u64
+    requires { ⌜ at + 7 < length (now s) ⌝ }
+{
+    (half(s, at) + half(s, at + 4) * 4294967296) as u64
+}
+
+// The number of two bytes at a place: from 32768 on the numbers up to the greatest of 64 bits.
+fn near(s: &[u8], at: usize) -> u64
+    requires { ⌜ at + 1 < length (now s) ⌝ }
+{
+    let n = number(s, at);
+    if n < 32768 {
+        return n as u64;
+    }
+    u64::MAX - (65535 - n) as u64
+}
+
+// Where a part of n bytes from a place on ends.
+pub fn part_end(s: &[u8], from: usize, n: usize) -> usize
+    requires { ⌜ from ≤ length (now s) ⌝ }
+    ensures { λ r. ⌜ (from ≤ r) × (r ≤ length (old s)) ⌝ }
+{
+    from + at_most(n, s.len() - from)
+}
+
+// How many ends there are from a place on: n, or none where these are over 16 or past the bytes.
+pub fn end_count(s: &[u8], from: usize, n: usize) -> usize
+    requires { ⌜ from ≤ length (now s) ⌝ }
+    ensures { λ r. ⌜ (r ≤ 16) × ((from + r * 2 ≤ length (old s)) × (from + r * 2 < 18446744073709551616)) ⌝ }
+{
+    if 16 < n {
+        return 0;
+    }
+    if s.len() - from < n * 2 {
+        return 0;
+    }
+    n
+}
+
+pub fn is_set(b: u8) -> bool {
+    b == 1
+}
+
+fn mode_of(b: u8) -> AuditInputMode {
+    if b == 1 {
+        return AuditInputMode::PairedEnd;
+    }
+    AuditInputMode::SingleEnd
+}
+
+fn role_of(b: u8) -> MateRole {
+    if b == 0 {
+        return MateRole::S;
+    }
+    if b == 1 {
+        return MateRole::R1;
+    }
+    MateRole::R2
+}
+
+// Mode, remap, floor, limit.
+pub fn settings_of(s: &[u8], at: usize) -> Settings
+    requires { ⌜ at + 10 < length (now s) ⌝ }
+{
+    Settings {
+        mode: mode_of(s[at]),
+        remap: is_set(s[at + 1]),
+        floor: s[at + 2],
+        limit: eight(s, at + 3),
+    }
+}
+
+fn last_of(s: &[u8], at: usize) -> LastOrdinal
+    requires { ⌜ at + 8 < length (now s) ⌝ }
+{
+    if s[at] == 1 {
+        return LastOrdinal::Accepted(eight(s, at + 1));
+    }
+    LastOrdinal::Absent
+}
+
+fn table_of(s: &[u8]) -> [u64; 18]
+    requires { ⌜ 36 ≤ length (now s) ⌝ }
+    ensures { λ r. ⌜ 18 ≡ length r ⌝ }
+{
+    let mut table = [0u64; 18];
+    let mut i = 0;
+    while i < 18 {
+        table[i] = near(s, i * 2);
+        i += 1;
+    }
+    table
+}
+
+// Counts by role and state, reads by role, three totals.
+fn ledger_of(s: &[u8], indeterminate: bool) -> Ledger
+    requires { ⌜ 48 ≤ length (now s) ⌝ }
+{
+    Ledger {
+        table: table_of(s),
+        reads: [near(s, 36), near(s, 38), near(s, 40)],
+        placements: near(s, 42),
+        singles: near(s, 44),
+        multi: near(s, 46),
+        indeterminate,
+    }
+}
+
+// A state, behind a code.
+pub fn state_of(s: &[u8]) -> AuditState
+    requires { ⌜ 70 ≤ length (now s) ⌝ }
+{
+    AuditState {
+        settings: settings_of(s, 1),
+        last: last_of(s, 12),
+        ledger: ledger_of(&s[22..], is_set(s[21])),
+    }
+}
+
+// What a fragment has beside its lists.
+pub fn head_of(s: &[u8]) -> FragmentHead
+    requires { ⌜ 37 ≤ length (now s) ⌝ }
+{
+    FragmentHead {
+        plain: is_set(s[1]),
+        ordinal: eight(s, 9),
+        count: eight(s, 17) as usize,
+        first_role: role_of(s[25]),
+        first_present: is_set(s[26]),
+        second_role: role_of(s[31]),
+        second_present: is_set(s[32]),
+    }
+}
