@@ -5,7 +5,6 @@ use Prim.Native.Nat.{ℕ, zero, suc, _+_}
 use lib.ListN.{length, getD, take, drop}
 use lib.Dec.{eqb, leb, ltb}
 use Rattle.lists.specs.Filter.{every}
-use Rattle.bases.specs.Read.{readOf}
 use Rattle.catalogue.specs.Catalogue.{Catalogue}
 use Rattle.audit_rules.specs.declared.settings.AuditInputMode.{AuditInputMode}
 use Rattle.audit_rules.specs.declared.settings.AuditInputMode.the-variants as modes
@@ -14,6 +13,7 @@ use Rattle.audit_rules.specs.declared.settings.MateRole.the-variants as roles
 use Rattle.audit_rules.specs.declared.settings.Settings.{Settings}
 use Rattle.audit_rules.specs.Observing.{MateRead}
 use Rattle.audit_rules.specs.Fragment.{Fragment}
+use Rattle.audit_rules.specs.Calls.{mateOf}
 use Rattle.stream.specs.Operands.{Parsed, parsed, wrong, _followedBy_, bytesIn, littleEndian}
 
 -- ---- bounds
@@ -79,10 +79,12 @@ withTarget c topology identifier bases =
       marks = c .marks ++ topology ∷ [];
     }
 
--- the topology is one, the identifier is not empty, there are no more targets than 16, and no more bases in all than 1,024
+-- a topology and an identifier that is not empty, behind so many targets and bases: no more targets than 16, and no more bases in all than 1,024
+abbrev pub targetFits : ℕ → ℕ → ℕ → ℕ → ℕ → Bool
+targetFits topology name count targets held = isMark topology && leb 1 name && ltb targets maxStreamTargets && leb (held + count) maxStreamBases
+
 abbrev pub targetRight : Catalogue → List ℕ → Bool
-targetRight c h =
-    isMark (getD h 0 0) && leb 1 (getD h 1 0) && ltb (length (c .marks)) maxStreamTargets && leb (length (c .bases) + littleEndian (drop 2 h)) maxStreamBases
+targetRight c h = targetFits (getD h 0 0) (getD h 1 0) (littleEndian (drop 2 h)) (length (c .marks)) (length (c .bases))
 
 abbrev pub targetIn : Catalogue → List ℕ → Parsed Catalogue
 targetIn c bytes =
@@ -100,20 +102,24 @@ qualityCount h = cond (isSet (getD h 1 0)) (littleEndian (drop 2 h)) 0
 abbrev pub readRight : List ℕ → Bool
 readRight h = leb (getD h 0 0) 2 && isMark (getD h 1 0) && leb (littleEndian (drop 2 h)) maxStreamRead
 
-abbrev pub readIn : List ℕ → Parsed MateRead
-readIn bytes =
+-- what stands behind the code
+abbrev pub readOperands : List ℕ → Parsed MateRead
+readOperands bytes =
     bytesIn 6 bytes followedBy λ h rest.
     bytesIn (littleEndian (drop 2 h)) rest followedBy λ bases behind.
     bytesIn (qualityCount h) behind followedBy λ qualities.
-    provided (readRight h) (record { role = roleOf (getD h 0 0); read = readOf bases (isSet (getD h 1 0)) qualities })
+    provided (readRight h) (mateOf (roleOf (getD h 0 0)) bases (isSet (getD h 1 0)) qualities)
+
+-- with the code
+abbrev pub readIn : List ℕ → Parsed MateRead
+readIn [] = wrong
+readIn (code ∷ bytes) = cond (eqb code 4) (readOperands bytes) wrong
 
 -- ---- 03: ordinal of 8 bytes, read count, and as many 04s
 
--- n reads, each behind its code
 abbrev pub readsIn : ℕ → List ℕ → Parsed (List MateRead)
 readsIn zero bytes = parsed [] bytes
-readsIn (suc n) [] = wrong
-readsIn (suc n) (code ∷ bytes) = cond (eqb code 4) (readIn bytes followedBy λ r rest. readsIn n rest followedBy λ rs. parsed (r ∷ rs)) wrong
+readsIn (suc n) bytes = readIn bytes followedBy λ r rest. readsIn n rest followedBy λ rs. parsed (r ∷ rs)
 
 abbrev pub fragmentIn : List ℕ → Parsed Fragment
 fragmentIn bytes =
