@@ -47,14 +47,15 @@ pub data Step : Type 0 where
 abbrev pub refuses : ℕ → Step
 refuses n = ends (refusalLine n)
 
+-- something is read, and the run goes on with it; or 20
+abbrev pub whenRead : {A : Type 0} → Parsed A → (A → List ℕ → Step) → Step
+whenRead (parsed a rest) next = next a rest
+whenRead wrong next = refuses 20
+
 -- 01 comes first
 abbrev pub begin : List ℕ → Step
 begin [] = refuses 20
-begin (code ∷ bytes) = cond (eqb code 1) (settled (settingsIn bytes)) (refuses 20)
-  where
-    settled : Parsed Settings → Step
-    settled (parsed s rest) = goes [] (supplying s noTargets) rest
-    settled wrong = refuses 20
+begin (code ∷ bytes) = cond (eqb code 1) (whenRead (settingsIn bytes) λ s. goes [] (supplying s noTargets)) (refuses 20)
 
 -- a whole fragment is audited: its lines, where it is not refused
 abbrev pub audited : ℕ → Catalogue → Held → Fragment → List ℕ → Step
@@ -75,11 +76,8 @@ finished n c h (b ∷ bytes) = refuses 20
 abbrev pub run : Catalogue → Held → List ℕ → Step
 run c h [] = refuses 20
 run c h (code ∷ bytes) =
-    cond (eqb code 3) (whole (fragmentIn bytes)) (cond (eqb code 5) (finished (finishRefusal auditSeed auditOffset c (lentOf c) h) c h bytes) (refuses 20))
-  where
-    whole : Parsed Fragment → Step
-    whole (parsed f rest) = audited (fragmentRefusal auditSeed auditOffset c (lentOf c) h f streamEntries) c h f rest
-    whole wrong = refuses 20
+    cond (eqb code 3) (whenRead (fragmentIn bytes) λ f. audited (fragmentRefusal auditSeed auditOffset c (lentOf c) h f streamEntries) c h f)
+    (cond (eqb code 5) (finished (finishRefusal auditSeed auditOffset c (lentOf c) h) c h bytes) (refuses 20))
 
 -- the opening, before anything behind the code that it is run at
 abbrev pub opened : ℕ → Settings → Catalogue → List ℕ → Step
@@ -90,12 +88,8 @@ opened (suc n) s c bytes = refuses (suc n)
 abbrev pub supply : Settings → Catalogue → List ℕ → Step
 supply s c [] = refuses 20
 supply s c (code ∷ bytes) =
-    cond (eqb code 2) (with′ (targetIn c bytes))
+    cond (eqb code 2) (whenRead (targetIn c bytes) λ c′. goes [] (supplying s c′))
     (cond (eqb code 3 || eqb code 5) (opened (openingRefusal auditSeed auditOffset c (lentOf c) s (started c s .counters)) s c (code ∷ bytes)) (refuses 20))
-  where
-    with′ : Parsed Catalogue → Step
-    with′ (parsed c′ rest) = goes [] (supplying s c′) rest
-    with′ wrong = refuses 20
 
 abbrev pub command : Stage → List ℕ → Step
 command beginning bytes = begin bytes
