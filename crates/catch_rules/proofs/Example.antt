@@ -19,7 +19,7 @@ use Rattle.audit_rules.specs.Opening.{openingRefusal}
 use Rattle.audit_rules.specs.Fragment.{testedRefusal, fragmentRefusal}
 use Rattle.audit_rules.specs.Sheet.{finishRefusal}
 use Rattle.lines.specs.Text.{text, digits}
-use Rattle.job.specs.Job.{catch, written}
+use Rattle.catch_rules.specs.Job.{catch, written}
 
 abbrev stream : List ℕ
 stream =

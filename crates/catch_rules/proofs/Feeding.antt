@@ -1,10 +1,10 @@
 -- On whichever pieces a stream is fed in, what is written in all is what is written for the whole.
 -- Assumes nothing.
-use mathlib.Core.Path.{_≡_, refl, sym, ap, _∙_}
-use mathlib.Core.List.{List, [], _∷_, _++_, append-nil, append-assoc}
+use mathlib.Core.Path.{_≡_, sym, ap, _∙_}
+use mathlib.Core.List.{List, [], _++_, append-nil, append-assoc}
 use Prim.Native.Nat.{ℕ}
-use Rattle.job.specs.Job.{Stage, beginning, still, catch}
-use Rattle.job.specs.Feeding.{Fed, does, takes, stops, closes, joined}
+use Rattle.catch_rules.specs.Job.{Stage, beginning, still, catch}
+use Rattle.catch_rules.specs.Feeding.{Fed, does, takes, stops, closes, joined}
 
 fed-all : (stage : Stage) (bytes : List ℕ) (pieces : List (List ℕ)) (out : List ℕ) → Fed stage bytes pieces out → out ≡ still stage (bytes ++ joined pieces)
 fed-all _ _ _ _ (does stage stage′ bytes left out behind pieces goes fed) = ap (λ l. out ++ l) (fed-all stage′ left pieces behind fed) ∙ sym (goes (joined pieces))

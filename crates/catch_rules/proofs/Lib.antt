@@ -1,3 +1,4 @@
 pub mod Shrinking
 pub mod Feeding
+pub mod Sizes
 pub mod Example

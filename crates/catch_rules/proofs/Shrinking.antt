@@ -1,6 +1,6 @@
 -- A command takes a byte at least, so that as many commands as bytes are enough.
 -- Assumes nothing.
-use mathlib.Core.Path.{_≡_, refl, sym, ap, _∙_}
+use mathlib.Core.Path.{_≡_, refl, ap, _∙_}
 use mathlib.Core.Bool.{Bool, true, false, cond, _&&_, _||_}
 use mathlib.Core.List.{List, [], _∷_, _++_}
 use Prim.Native.Nat.{ℕ, zero, suc, _≤_, _<_}
@@ -18,7 +18,7 @@ use Rattle.audit_rules.specs.Calls.{mateOf}
 use Rattle.audit_rules.specs.Sheet.{finishRefusal}
 use Rattle.stream.specs.Operands.{Parsed, parsed, wrong, _followedBy_, bytesIn, littleEndian}
 use Rattle.stream.specs.Commands.{provided, isMark, isSet, roleOf, settingsOf, settingsIn, isNameByte, withTarget, targetRight, targetIn, qualityCount, readRight, readOperands, readIn, readsIn, fragmentIn, maxStreamReads}
-use Rattle.job.specs.Job.{noTargets, Stage, beginning, supplying, running, Step, ends, goes, refuses, whenRead, audited, finished, begin, run, opened, supply, command, lentOf, streamEntries, onward, written, still}
+use Rattle.catch_rules.specs.Job.{noTargets, Stage, beginning, supplying, running, Step, ends, goes, refuses, whenRead, audited, finished, begin, run, opened, supply, command, lentOf, streamEntries, onward, written, still}
 
 -- ---- what is left behind something that was read is no longer
 

@@ -2,7 +2,7 @@
 use mathlib.Core.Path.{_≡_}
 use mathlib.Core.List.{List, [], _∷_, _++_}
 use Prim.Native.Nat.{ℕ}
-use Rattle.job.specs.Job.{Stage, still}
+use Rattle.catch_rules.specs.Job.{Stage, still}
 
 -- whatever follows the bytes that are there: some are written, and the run goes on at a stage with what is left of them
 abbrev pub Goes : Stage → List ℕ → List ℕ → Stage → List ℕ → Type 0

@@ -1,1 +1,1 @@
-// The run of `catch`.
+// `catch` on paper; what it writes is said in specs/.

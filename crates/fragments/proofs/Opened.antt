@@ -1,23 +1,22 @@
 -- A fragment call, from the opening's checks on.
 -- Assumes nothing.
-use mathlib.Core.Path.{_≡_, refl, sym, ap, ap₂, subst₂, _∙_}
+use mathlib.Core.Path.{_≡_, refl, sym, ap, subst₂, _∙_}
 use mathlib.Core.Bool.{Bool, true, false, _&&_}
 use mathlib.Core.List.{List}
 use Prim.Native.Nat.{ℕ, _≤_}
 use native.Mathlib.Omega.{arith}
 use lib.ListN.{length, take}
-use borrow.Author.Tests.{le-leb}
 use Rattle.lists.proofs.Cases.{and-true}
 use Rattle.promises.specs.Refusal.{_orElse_, outcome}
-use Rattle.promises.proofs.Refusing.{stands, outcome-refused, outcome-accepted, outcome-number}
+use Rattle.promises.proofs.Refusing.{stands, outcome-refused, outcome-number}
 use Rattle.catalogue.specs.Catalogue.{Catalogue, targets, mapped, suppliedPlaces, maxTargets}
 use Rattle.catalogue.specs.Ranking.{rankingOutcome}
 use Rattle.catalogue.specs.declared.ranks.Ranking.{Ranking}
 use Rattle.catalogue.specs.declared.ranks.Ranking.the-variants.{Refused, Ranked}
 use Rattle.catalogue.proofs.Checks.{bounded}
 use Rattle.catalogue.proofs.Mapped.{target-count}
-use Rattle.seeds.specs.Key.{SeedLength, maxSeed}
-use Rattle.index.specs.Index.{rankedSequences, mappedSequences, index, columnsOf, planRefusal, Lent, Indexed}
+use Rattle.seeds.specs.Key.{SeedLength}
+use Rattle.index.specs.Index.{rankedSequences, mappedSequences, index, columnsOf, Lent, Indexed}
 use Rattle.planning.specs.Answers.{PlanRanked}
 use Rattle.planning.proofs.Planning.{within-buffer, prefix-length, ranked-mapped, lent}
 use Rattle.scan.specs.Entries.{entryCount}
@@ -36,6 +35,7 @@ use Rattle.audit_rules.proofs.Catalogues.{places-ranked}
 use Rattle.audit_rules.proofs.Booked.{refused-holds}
 use Rattle.opening.specs.Opens.{OpeningRanked}
 use Rattle.opening.proofs.Opening.{counted}
+use Rattle.opening.proofs.Ranked.{unrefused, planned}
 use Rattle.sighting.specs.Sights.{wayIf}
 use Rattle.tested_fragments.specs.Tested.{Tested, TestedAudited}
 use Rattle.tested_fragments.proofs.Chain.{untouched}
@@ -44,23 +44,11 @@ use Rattle.tested_fragments.proofs.Chain.{untouched}
 
 module _ (q offset : ℕ) (c : Catalogue) (indexed : Bool) (ks rs os : List ℕ) (s : Settings) (k : Counters) (r : Ranking) (buffer : List ℕ)
     (p : OpeningRanked q offset c (indexIf indexed ks rs os) s k r buffer) (seed : SeedLength q) (n : ℕ) (told : r ≡ Ranked n) where
-  abbrev opened : (openingRefusal q offset c (indexIf indexed ks rs os) s k ≡ 0) × (length (mapped c) ≡ n)
-  opened = outcome-accepted (openingRefusal q offset c (indexIf indexed ks rs os) s k) (length (mapped c)) n (sym (p .answer) ∙ ap rankingOutcome told)
-
-  -- the opening does not refuse
-  pub unrefused : openingRefusal q offset c (indexIf indexed ks rs os) s k ≡ 0
-  unrefused = opened .0
-
   abbrev all-passed : Passed q offset c (indexIf indexed ks rs os) s k
-  all-passed = opening-passed q offset c (indexIf indexed ks rs os) s k unrefused
+  all-passed = opening-passed q offset c (indexIf indexed ks rs os) s k (unrefused q offset c (indexIf indexed ks rs os) s k r buffer p n told)
 
-  no-plan-refusal : planRefusal q c ≡ 0
-  unfolding planRefusal
-  no-plan-refusal = rw (le-leb 1 q (seed .some), le-leb q maxSeed (seed .most)) (all-passed .unrefused)
-
-  -- so they are ranked as a plan ranks them
-  pub planned : PlanRanked q c r buffer
-  planned = record { answer = p .answer ∙ ap₂ outcome (unrefused ∙ sym no-plan-refusal) refl; ranks = p .ranks }
+  abbrev plan : PlanRanked q c r buffer
+  plan = planned q offset c (indexIf indexed ks rs os) s k r buffer p n told seed
 
   -- what a fragment is lent
   pub tested : length buffer ≤ maxTargets → Tested indexed q (c .bases) (c .baseEnds) (take n buffer) ks rs os s k
@@ -73,14 +61,14 @@ module _ (q offset : ℕ) (c : Catalogue) (indexed : Bool) (ks rs os : List ℕ)
       }
     where
       rows : Lent (c .bases) (c .baseEnds) (take n buffer)
-      rows = lent q c r buffer planned n told few
+      rows = lent q c r buffer plan n told few
 
       held : (indexed && s .remap) ≡ true → Indexed q (rankedSequences (c .bases) (c .baseEnds) (take n buffer)) ks rs os
       held on =
           let b = and-true indexed (s .remap) on in
           let t : indexRight q c (indexIf indexed ks rs os) ≡ true = rw (b .1) at (all-passed .index-right) in
           let u : columnsOf (index q c) ks rs os ≡ true = rw (b .0) at t in
-          mappable q (c .bases) (c .baseEnds) (take n buffer) ks rs os rows seed (rw (ranked-mapped q c r buffer planned n told) u) .indexed
+          mappable q (c .bases) (c .baseEnds) (take n buffer) ks rs os rows seed (rw (ranked-mapped q c r buffer plan n told) u) .indexed
 
       count : (length (k .placements) ≡ length (targets c)) × (length (k .singles) ≡ length (targets c)) × (length (k .multi) ≡ length (targets c))
       count = counted (length (targets c)) k (all-passed .counters)
@@ -143,13 +131,13 @@ module _ (q offset : ℕ) (c : Catalogue) (indexed : Bool) (ks rs os : List ℕ)
 
   module _ (seed : SeedLength q) (n : ℕ) (told : r ≡ Ranked n) where
     pub within : n ≤ length buffer
-    within = within-buffer q c r buffer (planned q offset c indexed ks rs os (h .state .settings) (h .counters) r buffer p seed n told) n told
+    within = within-buffer q c r buffer (planned q offset c (indexIf indexed ks rs os) (h .state .settings) (h .counters) r buffer p n told seed) n told
 
     pub prefix : n ≡ length (take n buffer)
-    prefix = prefix-length q c r buffer (planned q offset c indexed ks rs os (h .state .settings) (h .counters) r buffer p seed n told) n told
+    prefix = prefix-length q c r buffer (planned q offset c (indexIf indexed ks rs os) (h .state .settings) (h .counters) r buffer p n told seed) n told
 
     pub opening-passes : (a : FragmentAudit) (k : Counters) (entries′ : List ℕ)
         → TestedAudited offset (rankedSequences (c .bases) (c .baseEnds) (take n buffer)) (wayIf indexed q) (take n buffer) h f a k entries entries′ → Audits q offset c (indexIf indexed ks rs os) h f entries a k entries′
     opening-passes a k entries′ t =
-        call-done q offset c (indexIf indexed ks rs os) h f entries (unrefused q offset c indexed ks rs os (h .state .settings) (h .counters) r buffer p seed n told) a k entries′
-        (rw (← ranked-mapped q c r buffer (planned q offset c indexed ks rs os (h .state .settings) (h .counters) r buffer p seed n told) n told, ← p .ranks n told, ← way-lent indexed q ks rs os) t)
+        call-done q offset c (indexIf indexed ks rs os) h f entries (unrefused q offset c (indexIf indexed ks rs os) (h .state .settings) (h .counters) r buffer p n told) a k entries′
+        (rw (← ranked-mapped q c r buffer (planned q offset c (indexIf indexed ks rs os) (h .state .settings) (h .counters) r buffer p n told seed) n told, ← p .ranks n told, ← way-lent indexed q ks rs os) t)
