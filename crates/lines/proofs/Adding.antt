@@ -1,12 +1,13 @@
 -- Bytes added to an output one after the other.
 -- Assumes nothing.
-use mathlib.Core.Path.{_≡_, refl, ap, _∙_}
+use mathlib.Core.Path.{_≡_, refl, sym, ap, subst, _∙_}
 use mathlib.Core.List.{List, [], _∷_, _++_, append-assoc, append-nil}
 use Prim.Native.Nat.{ℕ, suc, _+_, _≤_, _<_}
 use native.Mathlib.Numerals.{add-one, unary-clauses}
 use native.Mathlib.Omega.{arith}
 use lib.ListN.{length, getD, take, set, length-append, length-set}
 use lib.Seq.{take-suc, take-suc-set, take-length}
+use Rattle.lines.specs.Text.{text, spaced, line}
 use Rattle.lines.specs.Writing.{Adds}
 
 -- ---- one after the other
@@ -15,9 +16,44 @@ use Rattle.lines.specs.Writing.{Adds}
 pub adds-both : {a b out out′ out″ : List ℕ} {at p q : ℕ} → Adds a out at out′ p → Adds b out′ p out″ q → Adds (a ++ b) out at out″ q
 adds-both {a} {b} f g = record { written = g .written ∙ ap (λ (l : List ℕ). l ++ b) (f .written) ∙ simp append-assoc; end = rw length-append (omega arith) }
 
+pub adds-none : (out : List ℕ) (at : ℕ) → Adds [] out at out at
+adds-none out at = record { written = simp append-nil; end = omega arith }
+
 -- one byte more
 pub adds-byte : (out : List ℕ) (at b : ℕ) → at < length out → Adds (b ∷ []) out at (set out at b) (at + 1)
 adds-byte out at b h = record { written = rw (add-one, take-suc-set); end = refl }
+
+-- ---- lines
+
+-- fields, each behind a space, and LF
+abbrev ended : List (List ℕ) → List ℕ
+ended [] = text "\n"
+ended (f ∷ fs) = text " " ++ (f ++ ended fs)
+
+spaced-ended : (fs : List (List ℕ)) → spaced fs ++ text "\n" ≡ ended fs
+spaced-ended [] = refl
+spaced-ended (f ∷ fs) = ap (λ (l : List ℕ). 32 ∷ l) (append-assoc f (spaced fs) (text "\n") ∙ ap (λ (l : List ℕ). f ++ l) (spaced-ended fs))
+
+ended-append : (fs gs : List (List ℕ)) → ended (fs ++ gs) ≡ spaced fs ++ ended gs
+ended-append [] gs = refl
+ended-append (f ∷ fs) gs = ap (λ (l : List ℕ). 32 ∷ l) (ap (λ (l : List ℕ). f ++ l) (ended-append fs gs) ∙ sym (append-assoc f (spaced fs) (ended gs)))
+
+-- a line is its first field, the others and LF
+pub adds-line : (f : List ℕ) (fs : List (List ℕ)) {out out′ : List ℕ} {at r : ℕ} → Adds (f ++ ended fs) out at out′ r → Adds (line (f ∷ fs)) out at out′ r
+adds-line f fs {out} {out′} {at} {r} h = subst (λ (l : List ℕ). Adds l out at out′ r) (sym (append-assoc f (spaced fs) (text "\n") ∙ ap (λ (l : List ℕ). f ++ l) (spaced-ended fs))) h
+
+-- some of the others are added at once
+pub adds-fields : (fs gs : List (List ℕ)) {out out′ : List ℕ} {at r : ℕ} → Adds (spaced fs ++ ended gs) out at out′ r → Adds (ended (fs ++ gs)) out at out′ r
+adds-fields fs gs {out} {out′} {at} {r} h = subst (λ (l : List ℕ). Adds l out at out′ r) (sym (ended-append fs gs)) h
+
+-- the last of them
+pub adds-last : (fs : List (List ℕ)) {out out′ : List ℕ} {at r : ℕ} → Adds (spaced fs ++ text "\n") out at out′ r → Adds (ended fs) out at out′ r
+adds-last fs {out} {out′} {at} {r} h = subst (λ (l : List ℕ). Adds l out at out′ r) (spaced-ended fs) h
+
+-- no more than `most` bytes have been added, and the output is as long as it was
+pub record Reached (most : ℕ) (out : List ℕ) (at : ℕ) (out′ : List ℕ) (p : ℕ) : Type 0 where
+  pub room : p ≤ at + most
+  pub sized : length out′ ≡ length out
 
 -- ---- a list copied byte by byte
 
