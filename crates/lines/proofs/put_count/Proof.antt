@@ -1,53 +1,45 @@
 -- `lines::put_count` meets its contract.
 -- Assumes nothing.
+use mathlib.Core.Path.{refl}
 use mathlib.Core.List.{[], _∷_}
+use native.Mathlib.Nat.{le-refl}
 use native.Mathlib.Omega.{arith}
-use borrow.Author.Needs.{needs}
+use lib.Dec.{lit≤}
 use Rattle.audit_rules.specs.Settings.{roleNumber}
 use Rattle.lines.specs.Text.{text, decimal}
 use Rattle.lines.specs.Lines.{roleWord}
-use Rattle.lines.proofs.Adding.{Reached, adds-both, adds-line}
+use Rattle.lines.proofs.Adding.{Reached, reached-none, reached-more, reached-most, room-left, reached-line, adds-both, adds-line}
 use Rattle.lines.proofs.Decimal.{decimal-room}
 use Rattle.lines.proofs.put_count.Statement.{statement}
 use Rattle.lines.proofs.put_count.Tie as tie
 
-reached-1 : (c : tie.After-put-bytes) → let s = c .before .before .before .before in Reached 2 (s .args .out .now) (s .args .at) (c .put-bytes .last .0) (c .put-bytes .result)
-reached-1 c = record { room = omega arith; sized = omega arith }
+reached-1 : (c : tie.After-put-bytes) → let s = c .before .before .before .before in Reached 0 2 (s .args .out .now) (s .args .at) (c .put-bytes .last .0) (c .put-bytes .result)
+reached-1 c = reached-more (reached-none _ _) 2 (c .put-bytes .ensures) (lit≤ tt) (c .put-bytes .kept .0)
 
-reached-2 : (c : tie.After-put-role) → let s = c .before .before .before .before .before .before .before .before in Reached 4 (s .args .out .now) (s .args .at) (c .put-role .last .0) (c .put-role .result)
-reached-2 c =
-    let b = reached-1 (c .before .before .before .before) in
-    record { room = omega arith; sized = omega arith }
+reached-2 : (c : tie.After-put-role) → let s = c .before .before .before .before .before .before .before .before in Reached 0 4 (s .args .out .now) (s .args .at) (c .put-role .last .0) (c .put-role .result)
+reached-2 c = reached-most (reached-1 (c .before .before .before .before)) 2 (c .put-role .ensures) (c .put-role .kept .0)
 
-reached-3 : (c : tie.After-put-bytes2) → let s = c .before .before .before .before .before .before .before .before .before .before .before .before .before in Reached 5 (s .args .out .now) (s .args .at) (c .put-bytes2 .last .0) (c .put-bytes2 .result)
-reached-3 c =
-    let b = reached-2 (c .before .before .before .before .before) in
-    record { room = omega arith; sized = omega arith }
+reached-3 : (c : tie.After-put-bytes2) → let s = c .before .before .before .before .before .before .before .before .before .before .before .before .before in Reached 0 5 (s .args .out .now) (s .args .at) (c .put-bytes2 .last .0) (c .put-bytes2 .result)
+reached-3 c = reached-more (reached-2 (c .before .before .before .before .before)) 1 (c .put-bytes2 .ensures) (lit≤ tt) (c .put-bytes2 .kept .0)
 
-reached-4 : (c : tie.After-put-decimal) → let s = c .before .before .before .before .before .before .before .before .before .before .before .before .before .before .before .before .before in Reached 25 (s .args .out .now) (s .args .at) (c .put-decimal .last .0) (c .put-decimal .result)
+reached-4 : (c : tie.After-put-decimal) → let s = c .before .before .before .before .before .before .before .before .before .before .before .before .before .before .before .before .before in Reached 0 25 (s .args .out .now) (s .args .at) (c .put-decimal .last .0) (c .put-decimal .result)
 reached-4 c =
     let s = c .before .before .before .before .before .before .before .before .before .before .before .before .before .before .before .before .before in
-    let b = reached-3 (c .before .before .before .before) in
-    record { room = omega (arith, decimal-room (s .args .state) (s .fits .state .fits)); sized = omega arith }
+    reached-more (reached-3 (c .before .before .before .before)) 20 (c .put-decimal .ensures) (decimal-room (s .args .state) (s .fits .state .fits)) (c .put-decimal .kept .0)
 
-reached-5 : (c : tie.After-put-bytes3) → let s = c .before .before .before .before .before .before .before .before .before .before .before .before .before .before .before .before .before .before .before .before .before .before in Reached 26 (s .args .out .now) (s .args .at) (c .put-bytes3 .last .0) (c .put-bytes3 .result)
-reached-5 c =
-    let b = reached-4 (c .before .before .before .before .before) in
-    record { room = omega arith; sized = omega arith }
+reached-5 : (c : tie.After-put-bytes3) → let s = c .before .before .before .before .before .before .before .before .before .before .before .before .before .before .before .before .before .before .before .before .before .before in Reached 0 26 (s .args .out .now) (s .args .at) (c .put-bytes3 .last .0) (c .put-bytes3 .result)
+reached-5 c = reached-more (reached-4 (c .before .before .before .before .before)) 1 (c .put-bytes3 .ensures) (lit≤ tt) (c .put-bytes3 .kept .0)
 
-reached-6 : (c : tie.After-put-decimal2) → let s = c .before .before .before .before .before .before .before .before .before .before .before .before .before .before .before .before .before .before .before .before .before .before .before .before .before .before in Reached 46 (s .args .out .now) (s .args .at) (c .put-decimal2 .last .0) (c .put-decimal2 .result)
+reached-6 : (c : tie.After-put-decimal2) → let s = c .before .before .before .before .before .before .before .before .before .before .before .before .before .before .before .before .before .before .before .before .before .before .before .before .before .before in Reached 0 46 (s .args .out .now) (s .args .at) (c .put-decimal2 .last .0) (c .put-decimal2 .result)
 reached-6 c =
     let s = c .before .before .before .before .before .before .before .before .before .before .before .before .before .before .before .before .before .before .before .before .before .before .before .before .before .before in
-    let b = reached-5 (c .before .before .before .before) in
-    record { room = omega (arith, decimal-room (s .args .count) (s .fits .count .fits)); sized = omega arith }
+    reached-more (reached-5 (c .before .before .before .before)) 20 (c .put-decimal2 .ensures) (decimal-room (s .args .count) (s .fits .count .fits)) (c .put-decimal2 .kept .0)
 
-reached-7 : (c : tie.After-put-bytes4) → let s = c .before .before .before .before .before .before .before .before .before .before .before .before .before .before .before .before .before .before .before .before .before .before .before .before .before .before .before .before .before .before .before in Reached 47 (s .args .out .now) (s .args .at) (c .put-bytes4 .last .0) (c .put-bytes4 .result)
-reached-7 c =
-    let b = reached-6 (c .before .before .before .before .before) in
-    record { room = omega arith; sized = omega arith }
+reached-7 : (c : tie.After-put-bytes4) → let s = c .before .before .before .before .before .before .before .before .before .before .before .before .before .before .before .before .before .before .before .before .before .before .before .before .before .before .before .before .before .before .before in Reached 0 47 (s .args .out .now) (s .args .at) (c .put-bytes4 .last .0) (c .put-bytes4 .result)
+reached-7 c = reached-more (reached-6 (c .before .before .before .before .before)) 1 (c .put-bytes4 .ensures) (lit≤ tt) (c .put-bytes4 .kept .0)
 
 slice-aggregate-put-bytes : tie.Need-slice-aggregate-put-bytes
-slice-aggregate-put-bytes c = search needs
+slice-aggregate-put-bytes c = refl
 
 put-bytes-requires : tie.Need-put-bytes-requires
 put-bytes-requires c κs = omega arith
@@ -55,47 +47,41 @@ put-bytes-requires c κs = omega arith
 put-role-requires : tie.Need-put-role-requires
 put-role-requires c κs =
     let s = c .before .before .before .before .before .before .before in
-    let b = reached-1 (c .before .before .before) in
-    omega (arith, s .pre)
+    room-left (reached-1 (c .before .before .before)) (le-refl 2) (lit≤ tt) (s .pre)
 
 slice-aggregate-put-bytes-2 : tie.Need-slice-aggregate-put-bytes-2
-slice-aggregate-put-bytes-2 c = search needs
+slice-aggregate-put-bytes-2 c = refl
 
 put-bytes-requires-2 : tie.Need-put-bytes-requires-2
 put-bytes-requires-2 c κs =
     let s = c .before .before .before .before .before .before .before .before .before .before .before .before in
-    let b = reached-2 (c .before .before .before .before) in
-    omega (arith, s .pre)
+    room-left (reached-2 (c .before .before .before .before)) (le-refl 1) (lit≤ tt) (s .pre)
 
 put-decimal-requires : tie.Need-put-decimal-requires
 put-decimal-requires c κs =
     let s = c .before .before .before .before .before .before .before .before .before .before .before .before .before .before .before .before in
-    let b = reached-3 (c .before .before .before) in
-    omega (arith, s .pre, decimal-room (s .args .state) (s .fits .state .fits))
+    room-left (reached-3 (c .before .before .before)) (decimal-room (s .args .state) (s .fits .state .fits)) (lit≤ tt) (s .pre)
 
 slice-aggregate-put-bytes-3 : tie.Need-slice-aggregate-put-bytes-3
-slice-aggregate-put-bytes-3 c = search needs
+slice-aggregate-put-bytes-3 c = refl
 
 put-bytes-requires-3 : tie.Need-put-bytes-requires-3
 put-bytes-requires-3 c κs =
     let s = c .before .before .before .before .before .before .before .before .before .before .before .before .before .before .before .before .before .before .before .before .before in
-    let b = reached-4 (c .before .before .before .before) in
-    omega (arith, s .pre)
+    room-left (reached-4 (c .before .before .before .before)) (le-refl 1) (lit≤ tt) (s .pre)
 
 put-decimal-requires-2 : tie.Need-put-decimal-requires-2
 put-decimal-requires-2 c κs =
     let s = c .before .before .before .before .before .before .before .before .before .before .before .before .before .before .before .before .before .before .before .before .before .before .before .before .before in
-    let b = reached-5 (c .before .before .before) in
-    omega (arith, s .pre, decimal-room (s .args .count) (s .fits .count .fits))
+    room-left (reached-5 (c .before .before .before)) (decimal-room (s .args .count) (s .fits .count .fits)) (lit≤ tt) (s .pre)
 
 slice-aggregate-put-bytes-4 : tie.Need-slice-aggregate-put-bytes-4
-slice-aggregate-put-bytes-4 c = search needs
+slice-aggregate-put-bytes-4 c = refl
 
 put-bytes-requires-4 : tie.Need-put-bytes-requires-4
 put-bytes-requires-4 c κs =
     let s = c .before .before .before .before .before .before .before .before .before .before .before .before .before .before .before .before .before .before .before .before .before .before .before .before .before .before .before .before .before .before in
-    let b = reached-6 (c .before .before .before .before) in
-    omega (arith, s .pre)
+    room-left (reached-6 (c .before .before .before .before)) (le-refl 1) (lit≤ tt) (s .pre)
 
 same-length : tie.Need-same-length
 same-length c = reached-7 (c .before .before) .sized
@@ -110,18 +96,15 @@ returns c =
     let z2 = z3 .before .before .before .before .before in
     let z1 = z2 .before .before .before .before in
     let s = z1 .before .before .before .before in
-    let b = reached-7 z7 in
-    record {
-      adds = adds-line (text "S") (roleWord (roleNumber (s .args .role)) ∷ decimal (s .args .state) ∷ decimal (s .args .count) ∷ [])
-          (adds-both (z1 .put-bytes .ensures)
-          (adds-both (z2 .put-role .ensures .adds)
-          (adds-both (z3 .put-bytes2 .ensures)
-          (adds-both (z4 .put-decimal .ensures)
-          (adds-both (z5 .put-bytes3 .ensures)
-          (adds-both (z6 .put-decimal2 .ensures)
-          (z7 .put-bytes4 .ensures)))))));
-      room = omega arith;
-    }
+    reached-line (reached-7 z7) (lit≤ tt)
+    (adds-line (text "S") (roleWord (roleNumber (s .args .role)) ∷ decimal (s .args .state) ∷ decimal (s .args .count) ∷ [])
+    (adds-both (z1 .put-bytes .ensures)
+    (adds-both (z2 .put-role .ensures .adds)
+    (adds-both (z3 .put-bytes2 .ensures)
+    (adds-both (z4 .put-decimal .ensures)
+    (adds-both (z5 .put-bytes3 .ensures)
+    (adds-both (z6 .put-decimal2 .ensures)
+    (z7 .put-bytes4 .ensures))))))))
 
 pub put-count-spec : {M : Type 1} → statement M
 put-count-spec =

@@ -1,64 +1,51 @@
 -- `lines::put_group` meets its contract.
 -- Assumes nothing.
+use mathlib.Core.Path.{refl}
 use mathlib.Core.List.{[], _∷_}
-use Prim.Native.Nat.{_+_}
-use native.Mathlib.Omega.{arith}
 use lib.ListN.{length}
-use borrow.Author.Needs.{needs}
+use native.Mathlib.Nat.{le-refl}
+use native.Mathlib.Omega.{arith}
+use lib.Dec.{lit≤}
 use Rattle.lines.specs.Text.{text, decimal}
 use Rattle.lines.specs.Lines.{strandWord}
-use Rattle.lines.proofs.Adding.{Reached, adds-both, adds-line}
+use Rattle.lines.proofs.Adding.{Reached, reached-none, reached-more, reached-most, reached-name, room-behind, room-name, reached-named, adds-both, adds-line}
 use Rattle.lines.proofs.Decimal.{decimal-room}
 use Rattle.lines.proofs.put_group.Statement.{statement}
 use Rattle.lines.proofs.put_group.Tie as tie
 
-reached-1 : (c : tie.After-put-bytes) → let s = c .before .before .before .before .before in Reached 2 (s .args .out .now) (s .args .at) (c .put-bytes .last .0) (c .put-bytes .result)
-reached-1 c = record { room = omega arith; sized = omega arith }
+reached-1 : (c : tie.After-put-bytes) → let s = c .before .before .before .before .before in Reached 0 2 (s .args .out .now) (s .args .at) (c .put-bytes .last .0) (c .put-bytes .result)
+reached-1 c = reached-more (reached-none _ _) 2 (c .put-bytes .ensures) (lit≤ tt) (c .put-bytes .kept .0)
 
-reached-2 : (c : tie.After-put-bytes2) → let s = c .before .before .before .before .before .before .before .before .before in Reached (length (s .args .name .now) + 2) (s .args .out .now) (s .args .at) (c .put-bytes2 .last .0) (c .put-bytes2 .result)
-reached-2 c =
-    let b = reached-1 (c .before .before .before .before) in
-    record { room = omega arith; sized = omega arith }
+reached-2 : (c : tie.After-put-bytes2) → let s = c .before .before .before .before .before .before .before .before .before in Reached (length (s .args .name .now)) 2 (s .args .out .now) (s .args .at) (c .put-bytes2 .last .0) (c .put-bytes2 .result)
+reached-2 c = reached-name (reached-1 (c .before .before .before .before)) (c .put-bytes2 .ensures) (c .put-bytes2 .kept .0)
 
-reached-3 : (c : tie.After-put-bytes3) → let s = c .before .before .before .before .before .before .before .before .before .before .before .before .before .before in Reached (length (s .args .name .now) + 3) (s .args .out .now) (s .args .at) (c .put-bytes3 .last .0) (c .put-bytes3 .result)
-reached-3 c =
-    let b = reached-2 (c .before .before .before .before .before) in
-    record { room = omega arith; sized = omega arith }
+reached-3 : (c : tie.After-put-bytes3) → let s = c .before .before .before .before .before .before .before .before .before .before .before .before .before .before in Reached (length (s .args .name .now)) 3 (s .args .out .now) (s .args .at) (c .put-bytes3 .last .0) (c .put-bytes3 .result)
+reached-3 c = reached-more (reached-2 (c .before .before .before .before .before)) 1 (c .put-bytes3 .ensures) (lit≤ tt) (c .put-bytes3 .kept .0)
 
-reached-4 : (c : tie.After-put-decimal) → let s = c .before .before .before .before .before .before .before .before .before .before .before .before .before .before .before .before .before .before in Reached (length (s .args .name .now) + 23) (s .args .out .now) (s .args .at) (c .put-decimal .last .0) (c .put-decimal .result)
+reached-4 : (c : tie.After-put-decimal) → let s = c .before .before .before .before .before .before .before .before .before .before .before .before .before .before .before .before .before .before in Reached (length (s .args .name .now)) 23 (s .args .out .now) (s .args .at) (c .put-decimal .last .0) (c .put-decimal .result)
 reached-4 c =
     let s = c .before .before .before .before .before .before .before .before .before .before .before .before .before .before .before .before .before .before in
-    let b = reached-3 (c .before .before .before .before) in
-    record { room = omega (arith, decimal-room (s .args .start) (s .fits .start .fits)); sized = omega arith }
+    reached-more (reached-3 (c .before .before .before .before)) 20 (c .put-decimal .ensures) (decimal-room (s .args .start) (s .fits .start .fits)) (c .put-decimal .kept .0)
 
-reached-5 : (c : tie.After-put-bytes4) → let s = c .before .before .before .before .before .before .before .before .before .before .before .before .before .before .before .before .before .before .before .before .before .before .before in Reached (length (s .args .name .now) + 24) (s .args .out .now) (s .args .at) (c .put-bytes4 .last .0) (c .put-bytes4 .result)
-reached-5 c =
-    let b = reached-4 (c .before .before .before .before .before) in
-    record { room = omega arith; sized = omega arith }
+reached-5 : (c : tie.After-put-bytes4) → let s = c .before .before .before .before .before .before .before .before .before .before .before .before .before .before .before .before .before .before .before .before .before .before .before in Reached (length (s .args .name .now)) 24 (s .args .out .now) (s .args .at) (c .put-bytes4 .last .0) (c .put-bytes4 .result)
+reached-5 c = reached-more (reached-4 (c .before .before .before .before .before)) 1 (c .put-bytes4 .ensures) (lit≤ tt) (c .put-bytes4 .kept .0)
 
-reached-6 : (c : tie.After-put-decimal2) → let s = c .before .before .before .before .before .before .before .before .before .before .before .before .before .before .before .before .before .before .before .before .before .before .before .before .before .before .before in Reached (length (s .args .name .now) + 44) (s .args .out .now) (s .args .at) (c .put-decimal2 .last .0) (c .put-decimal2 .result)
+reached-6 : (c : tie.After-put-decimal2) → let s = c .before .before .before .before .before .before .before .before .before .before .before .before .before .before .before .before .before .before .before .before .before .before .before .before .before .before .before in Reached (length (s .args .name .now)) 44 (s .args .out .now) (s .args .at) (c .put-decimal2 .last .0) (c .put-decimal2 .result)
 reached-6 c =
     let s = c .before .before .before .before .before .before .before .before .before .before .before .before .before .before .before .before .before .before .before .before .before .before .before .before .before .before .before in
-    let b = reached-5 (c .before .before .before .before) in
-    record { room = omega (arith, decimal-room (s .args .end) (s .fits .end .fits)); sized = omega arith }
+    reached-more (reached-5 (c .before .before .before .before)) 20 (c .put-decimal2 .ensures) (decimal-room (s .args .end) (s .fits .end .fits)) (c .put-decimal2 .kept .0)
 
-reached-7 : (c : tie.After-put-bytes5) → let s = c .before .before .before .before .before .before .before .before .before .before .before .before .before .before .before .before .before .before .before .before .before .before .before .before .before .before .before .before .before .before .before .before in Reached (length (s .args .name .now) + 45) (s .args .out .now) (s .args .at) (c .put-bytes5 .last .0) (c .put-bytes5 .result)
-reached-7 c =
-    let b = reached-6 (c .before .before .before .before .before) in
-    record { room = omega arith; sized = omega arith }
+reached-7 : (c : tie.After-put-bytes5) → let s = c .before .before .before .before .before .before .before .before .before .before .before .before .before .before .before .before .before .before .before .before .before .before .before .before .before .before .before .before .before .before .before .before in Reached (length (s .args .name .now)) 45 (s .args .out .now) (s .args .at) (c .put-bytes5 .last .0) (c .put-bytes5 .result)
+reached-7 c = reached-more (reached-6 (c .before .before .before .before .before)) 1 (c .put-bytes5 .ensures) (lit≤ tt) (c .put-bytes5 .kept .0)
 
-reached-8 : (c : tie.After-put-strand) → let s = c .before .before .before .before .before .before .before .before .before .before .before .before .before .before .before .before .before .before .before .before .before .before .before .before .before .before .before .before .before .before .before .before .before .before .before .before in Reached (length (s .args .name .now) + 46) (s .args .out .now) (s .args .at) (c .put-strand .last .0) (c .put-strand .result)
-reached-8 c =
-    let b = reached-7 (c .before .before .before .before) in
-    record { room = omega arith; sized = omega arith }
+reached-8 : (c : tie.After-put-strand) → let s = c .before .before .before .before .before .before .before .before .before .before .before .before .before .before .before .before .before .before .before .before .before .before .before .before .before .before .before .before .before .before .before .before .before .before .before .before in Reached (length (s .args .name .now)) 46 (s .args .out .now) (s .args .at) (c .put-strand .last .0) (c .put-strand .result)
+reached-8 c = reached-most (reached-7 (c .before .before .before .before)) 1 (c .put-strand .ensures) (c .put-strand .kept .0)
 
-reached-9 : (c : tie.After-put-bytes6) → let s = c .before .before .before .before .before .before .before .before .before .before .before .before .before .before .before .before .before .before .before .before .before .before .before .before .before .before .before .before .before .before .before .before .before .before .before .before .before .before .before .before .before in Reached (length (s .args .name .now) + 47) (s .args .out .now) (s .args .at) (c .put-bytes6 .last .0) (c .put-bytes6 .result)
-reached-9 c =
-    let b = reached-8 (c .before .before .before .before .before) in
-    record { room = omega arith; sized = omega arith }
+reached-9 : (c : tie.After-put-bytes6) → let s = c .before .before .before .before .before .before .before .before .before .before .before .before .before .before .before .before .before .before .before .before .before .before .before .before .before .before .before .before .before .before .before .before .before .before .before .before .before .before .before .before .before in Reached (length (s .args .name .now)) 47 (s .args .out .now) (s .args .at) (c .put-bytes6 .last .0) (c .put-bytes6 .result)
+reached-9 c = reached-more (reached-8 (c .before .before .before .before .before)) 1 (c .put-bytes6 .ensures) (lit≤ tt) (c .put-bytes6 .kept .0)
 
 slice-aggregate-put-bytes : tie.Need-slice-aggregate-put-bytes
-slice-aggregate-put-bytes c = search needs
+slice-aggregate-put-bytes c = refl
 
 put-bytes-requires : tie.Need-put-bytes-requires
 put-bytes-requires c κs = omega arith
@@ -66,62 +53,54 @@ put-bytes-requires c κs = omega arith
 put-bytes-requires-2 : tie.Need-put-bytes-requires-2
 put-bytes-requires-2 c κs =
     let s = c .before .before .before .before .before .before .before .before in
-    let b = reached-1 (c .before .before .before) in
-    omega (arith, s .pre)
+    room-name (reached-1 (c .before .before .before)) (lit≤ tt) _ (s .pre)
 
 slice-aggregate-put-bytes-2 : tie.Need-slice-aggregate-put-bytes-2
-slice-aggregate-put-bytes-2 c = search needs
+slice-aggregate-put-bytes-2 c = refl
 
 put-bytes-requires-3 : tie.Need-put-bytes-requires-3
 put-bytes-requires-3 c κs =
     let s = c .before .before .before .before .before .before .before .before .before .before .before .before .before in
-    let b = reached-2 (c .before .before .before .before) in
-    omega (arith, s .pre)
+    room-behind (reached-2 (c .before .before .before .before)) (le-refl 1) (lit≤ tt) (s .pre)
 
 put-decimal-requires : tie.Need-put-decimal-requires
 put-decimal-requires c κs =
     let s = c .before .before .before .before .before .before .before .before .before .before .before .before .before .before .before .before .before in
-    let b = reached-3 (c .before .before .before) in
-    omega (arith, s .pre, decimal-room (s .args .start) (s .fits .start .fits))
+    room-behind (reached-3 (c .before .before .before)) (decimal-room (s .args .start) (s .fits .start .fits)) (lit≤ tt) (s .pre)
 
 slice-aggregate-put-bytes-3 : tie.Need-slice-aggregate-put-bytes-3
-slice-aggregate-put-bytes-3 c = search needs
+slice-aggregate-put-bytes-3 c = refl
 
 put-bytes-requires-4 : tie.Need-put-bytes-requires-4
 put-bytes-requires-4 c κs =
     let s = c .before .before .before .before .before .before .before .before .before .before .before .before .before .before .before .before .before .before .before .before .before .before in
-    let b = reached-4 (c .before .before .before .before) in
-    omega (arith, s .pre)
+    room-behind (reached-4 (c .before .before .before .before)) (le-refl 1) (lit≤ tt) (s .pre)
 
 put-decimal-requires-2 : tie.Need-put-decimal-requires-2
 put-decimal-requires-2 c κs =
     let s = c .before .before .before .before .before .before .before .before .before .before .before .before .before .before .before .before .before .before .before .before .before .before .before .before .before .before in
-    let b = reached-5 (c .before .before .before) in
-    omega (arith, s .pre, decimal-room (s .args .end) (s .fits .end .fits))
+    room-behind (reached-5 (c .before .before .before)) (decimal-room (s .args .end) (s .fits .end .fits)) (lit≤ tt) (s .pre)
 
 slice-aggregate-put-bytes-4 : tie.Need-slice-aggregate-put-bytes-4
-slice-aggregate-put-bytes-4 c = search needs
+slice-aggregate-put-bytes-4 c = refl
 
 put-bytes-requires-5 : tie.Need-put-bytes-requires-5
 put-bytes-requires-5 c κs =
     let s = c .before .before .before .before .before .before .before .before .before .before .before .before .before .before .before .before .before .before .before .before .before .before .before .before .before .before .before .before .before .before .before in
-    let b = reached-6 (c .before .before .before .before) in
-    omega (arith, s .pre)
+    room-behind (reached-6 (c .before .before .before .before)) (le-refl 1) (lit≤ tt) (s .pre)
 
 put-strand-requires : tie.Need-put-strand-requires
 put-strand-requires c κs =
     let s = c .before .before .before .before .before .before .before .before .before .before .before .before .before .before .before .before .before .before .before .before .before .before .before .before .before .before .before .before .before .before .before .before .before .before .before in
-    let b = reached-7 (c .before .before .before) in
-    omega (arith, s .pre)
+    room-behind (reached-7 (c .before .before .before)) (le-refl 1) (lit≤ tt) (s .pre)
 
 slice-aggregate-put-bytes-5 : tie.Need-slice-aggregate-put-bytes-5
-slice-aggregate-put-bytes-5 c = search needs
+slice-aggregate-put-bytes-5 c = refl
 
 put-bytes-requires-6 : tie.Need-put-bytes-requires-6
 put-bytes-requires-6 c κs =
     let s = c .before .before .before .before .before .before .before .before .before .before .before .before .before .before .before .before .before .before .before .before .before .before .before .before .before .before .before .before .before .before .before .before .before .before .before .before .before .before .before .before in
-    let b = reached-8 (c .before .before .before .before) in
-    omega (arith, s .pre)
+    room-behind (reached-8 (c .before .before .before .before)) (le-refl 1) (lit≤ tt) (s .pre)
 
 same-length : tie.Need-same-length
 same-length c = reached-9 (c .before .before) .sized
@@ -138,20 +117,17 @@ returns c =
     let z2 = z3 .before .before .before .before .before in
     let z1 = z2 .before .before .before .before in
     let s = z1 .before .before .before .before .before in
-    let b = reached-9 z9 in
-    record {
-      adds = adds-line (text "G") (s .args .name .now ∷ decimal (s .args .start) ∷ decimal (s .args .end) ∷ strandWord (s .args .strand) ∷ [])
-          (adds-both (z1 .put-bytes .ensures)
-          (adds-both (z2 .put-bytes2 .ensures)
-          (adds-both (z3 .put-bytes3 .ensures)
-          (adds-both (z4 .put-decimal .ensures)
-          (adds-both (z5 .put-bytes4 .ensures)
-          (adds-both (z6 .put-decimal2 .ensures)
-          (adds-both (z7 .put-bytes5 .ensures)
-          (adds-both (z8 .put-strand .ensures .adds)
-          (z9 .put-bytes6 .ensures)))))))));
-      room = omega arith;
-    }
+    reached-named (reached-9 z9) (lit≤ tt)
+    (adds-line (text "G") (s .args .name .now ∷ decimal (s .args .start) ∷ decimal (s .args .end) ∷ strandWord (s .args .strand) ∷ [])
+    (adds-both (z1 .put-bytes .ensures)
+    (adds-both (z2 .put-bytes2 .ensures)
+    (adds-both (z3 .put-bytes3 .ensures)
+    (adds-both (z4 .put-decimal .ensures)
+    (adds-both (z5 .put-bytes4 .ensures)
+    (adds-both (z6 .put-decimal2 .ensures)
+    (adds-both (z7 .put-bytes5 .ensures)
+    (adds-both (z8 .put-strand .ensures .adds)
+    (z9 .put-bytes6 .ensures))))))))))
 
 pub put-group-spec : {M : Type 1} → statement M
 put-group-spec =

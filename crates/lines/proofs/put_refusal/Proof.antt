@@ -1,30 +1,29 @@
 -- `lines::put_refusal` meets its contract.
 -- Assumes nothing.
+use mathlib.Core.Path.{refl}
 use mathlib.Core.List.{[], _∷_}
+use native.Mathlib.Nat.{le-refl}
 use native.Mathlib.Omega.{arith}
-use borrow.Author.Needs.{needs}
+use lib.Dec.{lit≤}
 use Rattle.lines.specs.Text.{text, decimal}
-use Rattle.lines.proofs.Adding.{Reached, adds-both, adds-line}
+use Rattle.lines.proofs.Adding.{Reached, reached-none, reached-more, room-left, reached-line, adds-both, adds-line}
 use Rattle.lines.proofs.Decimal.{decimal-room}
 use Rattle.lines.proofs.put_refusal.Statement.{statement}
 use Rattle.lines.proofs.put_refusal.Tie as tie
 
-reached-1 : (c : tie.After-put-bytes) → let s = c .before .before .before .before in Reached 2 (s .args .out .now) (s .args .at) (c .put-bytes .last .0) (c .put-bytes .result)
-reached-1 c = record { room = omega arith; sized = omega arith }
+reached-1 : (c : tie.After-put-bytes) → let s = c .before .before .before .before in Reached 0 2 (s .args .out .now) (s .args .at) (c .put-bytes .last .0) (c .put-bytes .result)
+reached-1 c = reached-more (reached-none _ _) 2 (c .put-bytes .ensures) (lit≤ tt) (c .put-bytes .kept .0)
 
-reached-2 : (c : tie.After-put-decimal) → let s = c .before .before .before .before .before .before .before .before in Reached 22 (s .args .out .now) (s .args .at) (c .put-decimal .last .0) (c .put-decimal .result)
+reached-2 : (c : tie.After-put-decimal) → let s = c .before .before .before .before .before .before .before .before in Reached 0 22 (s .args .out .now) (s .args .at) (c .put-decimal .last .0) (c .put-decimal .result)
 reached-2 c =
     let s = c .before .before .before .before .before .before .before .before in
-    let b = reached-1 (c .before .before .before .before) in
-    record { room = omega (arith, decimal-room (s .args .number) (s .fits .number .fits)); sized = omega arith }
+    reached-more (reached-1 (c .before .before .before .before)) 20 (c .put-decimal .ensures) (decimal-room (s .args .number) (s .fits .number .fits)) (c .put-decimal .kept .0)
 
-reached-3 : (c : tie.After-put-bytes2) → let s = c .before .before .before .before .before .before .before .before .before .before .before .before .before in Reached 23 (s .args .out .now) (s .args .at) (c .put-bytes2 .last .0) (c .put-bytes2 .result)
-reached-3 c =
-    let b = reached-2 (c .before .before .before .before .before) in
-    record { room = omega arith; sized = omega arith }
+reached-3 : (c : tie.After-put-bytes2) → let s = c .before .before .before .before .before .before .before .before .before .before .before .before .before in Reached 0 23 (s .args .out .now) (s .args .at) (c .put-bytes2 .last .0) (c .put-bytes2 .result)
+reached-3 c = reached-more (reached-2 (c .before .before .before .before .before)) 1 (c .put-bytes2 .ensures) (lit≤ tt) (c .put-bytes2 .kept .0)
 
 slice-aggregate-put-bytes : tie.Need-slice-aggregate-put-bytes
-slice-aggregate-put-bytes c = search needs
+slice-aggregate-put-bytes c = refl
 
 put-bytes-requires : tie.Need-put-bytes-requires
 put-bytes-requires c κs = omega arith
@@ -32,17 +31,15 @@ put-bytes-requires c κs = omega arith
 put-decimal-requires : tie.Need-put-decimal-requires
 put-decimal-requires c κs =
     let s = c .before .before .before .before .before .before .before in
-    let b = reached-1 (c .before .before .before) in
-    omega (arith, s .pre, decimal-room (s .args .number) (s .fits .number .fits))
+    room-left (reached-1 (c .before .before .before)) (decimal-room (s .args .number) (s .fits .number .fits)) (lit≤ tt) (s .pre)
 
 slice-aggregate-put-bytes-2 : tie.Need-slice-aggregate-put-bytes-2
-slice-aggregate-put-bytes-2 c = search needs
+slice-aggregate-put-bytes-2 c = refl
 
 put-bytes-requires-2 : tie.Need-put-bytes-requires-2
 put-bytes-requires-2 c κs =
     let s = c .before .before .before .before .before .before .before .before .before .before .before .before in
-    let b = reached-2 (c .before .before .before .before) in
-    omega (arith, s .pre)
+    room-left (reached-2 (c .before .before .before .before)) (le-refl 1) (lit≤ tt) (s .pre)
 
 same-length : tie.Need-same-length
 same-length c = reached-3 (c .before .before) .sized
@@ -53,14 +50,11 @@ returns c =
     let z2 = z3 .before .before .before .before .before in
     let z1 = z2 .before .before .before .before in
     let s = z1 .before .before .before .before in
-    let b = reached-3 z3 in
-    record {
-      adds = adds-line (text "E") (decimal (s .args .number) ∷ [])
-          (adds-both (z1 .put-bytes .ensures)
-          (adds-both (z2 .put-decimal .ensures)
-          (z3 .put-bytes2 .ensures)));
-      room = omega arith;
-    }
+    reached-line (reached-3 z3) (lit≤ tt)
+    (adds-line (text "E") (decimal (s .args .number) ∷ [])
+    (adds-both (z1 .put-bytes .ensures)
+    (adds-both (z2 .put-decimal .ensures)
+    (z3 .put-bytes2 .ensures))))
 
 pub put-refusal-spec : {M : Type 1} → statement M
 put-refusal-spec =

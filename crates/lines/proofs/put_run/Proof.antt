@@ -1,35 +1,31 @@
 -- `lines::put_run` meets its contract.
 -- Assumes nothing.
+use mathlib.Core.Path.{refl}
 use mathlib.Core.List.{_∷_}
+use native.Mathlib.Nat.{le-refl}
 use native.Mathlib.Omega.{arith}
-use borrow.Author.Needs.{needs}
+use lib.Dec.{lit≤}
 use Rattle.audit_rules.specs.Sheet.{statusWord}
 use Rattle.lines.specs.Text.{text}
 use Rattle.lines.specs.Lines.{totalWords}
-use Rattle.lines.proofs.Adding.{Reached, adds-both, adds-line, adds-last}
+use Rattle.lines.proofs.Adding.{Reached, reached-none, reached-more, reached-most, room-left, reached-line, adds-both, adds-line, adds-last}
 use Rattle.lines.proofs.put_run.Statement.{statement}
 use Rattle.lines.proofs.put_run.Tie as tie
 
-reached-1 : (c : tie.After-put-bytes) → let s = c .before .before .before .before in Reached 2 (s .args .out .now) (s .args .at) (c .put-bytes .last .0) (c .put-bytes .result)
-reached-1 c = record { room = omega arith; sized = omega arith }
+reached-1 : (c : tie.After-put-bytes) → let s = c .before .before .before .before in Reached 0 2 (s .args .out .now) (s .args .at) (c .put-bytes .last .0) (c .put-bytes .result)
+reached-1 c = reached-more (reached-none _ _) 2 (c .put-bytes .ensures) (lit≤ tt) (c .put-bytes .kept .0)
 
-reached-2 : (c : tie.After-put-status) → let s = c .before .before .before .before .before .before .before .before in Reached 43 (s .args .out .now) (s .args .at) (c .put-status .last .0) (c .put-status .result)
-reached-2 c =
-    let b = reached-1 (c .before .before .before .before) in
-    record { room = omega arith; sized = omega arith }
+reached-2 : (c : tie.After-put-status) → let s = c .before .before .before .before .before .before .before .before in Reached 0 43 (s .args .out .now) (s .args .at) (c .put-status .last .0) (c .put-status .result)
+reached-2 c = reached-most (reached-1 (c .before .before .before .before)) 41 (c .put-status .ensures) (c .put-status .kept .0)
 
-reached-3 : (c : tie.After-put-totals) → let s = c .before .before .before .before .before .before .before .before .before .before .before .before in Reached 106 (s .args .out .now) (s .args .at) (c .put-totals .last .0) (c .put-totals .result)
-reached-3 c =
-    let b = reached-2 (c .before .before .before .before) in
-    record { room = omega arith; sized = omega arith }
+reached-3 : (c : tie.After-put-totals) → let s = c .before .before .before .before .before .before .before .before .before .before .before .before in Reached 0 106 (s .args .out .now) (s .args .at) (c .put-totals .last .0) (c .put-totals .result)
+reached-3 c = reached-most (reached-2 (c .before .before .before .before)) 63 (c .put-totals .ensures) (c .put-totals .kept .0)
 
-reached-4 : (c : tie.After-put-bytes2) → let s = c .before .before .before .before .before .before .before .before .before .before .before .before .before .before .before .before .before in Reached 107 (s .args .out .now) (s .args .at) (c .put-bytes2 .last .0) (c .put-bytes2 .result)
-reached-4 c =
-    let b = reached-3 (c .before .before .before .before .before) in
-    record { room = omega arith; sized = omega arith }
+reached-4 : (c : tie.After-put-bytes2) → let s = c .before .before .before .before .before .before .before .before .before .before .before .before .before .before .before .before .before in Reached 0 107 (s .args .out .now) (s .args .at) (c .put-bytes2 .last .0) (c .put-bytes2 .result)
+reached-4 c = reached-more (reached-3 (c .before .before .before .before .before)) 1 (c .put-bytes2 .ensures) (lit≤ tt) (c .put-bytes2 .kept .0)
 
 slice-aggregate-put-bytes : tie.Need-slice-aggregate-put-bytes
-slice-aggregate-put-bytes c = search needs
+slice-aggregate-put-bytes c = refl
 
 put-bytes-requires : tie.Need-put-bytes-requires
 put-bytes-requires c κs = omega arith
@@ -37,23 +33,20 @@ put-bytes-requires c κs = omega arith
 put-status-requires : tie.Need-put-status-requires
 put-status-requires c κs =
     let s = c .before .before .before .before .before .before .before in
-    let b = reached-1 (c .before .before .before) in
-    omega (arith, s .pre)
+    room-left (reached-1 (c .before .before .before)) (le-refl 41) (lit≤ tt) (s .pre)
 
 put-totals-requires : tie.Need-put-totals-requires
 put-totals-requires c κs =
     let s = c .before .before .before .before .before .before .before .before .before .before .before in
-    let b = reached-2 (c .before .before .before) in
-    omega (arith, s .pre)
+    room-left (reached-2 (c .before .before .before)) (le-refl 63) (lit≤ tt) (s .pre)
 
 slice-aggregate-put-bytes-2 : tie.Need-slice-aggregate-put-bytes-2
-slice-aggregate-put-bytes-2 c = search needs
+slice-aggregate-put-bytes-2 c = refl
 
 put-bytes-requires-2 : tie.Need-put-bytes-requires-2
 put-bytes-requires-2 c κs =
     let s = c .before .before .before .before .before .before .before .before .before .before .before .before .before .before .before .before in
-    let b = reached-3 (c .before .before .before .before) in
-    omega (arith, s .pre)
+    room-left (reached-3 (c .before .before .before .before)) (le-refl 1) (lit≤ tt) (s .pre)
 
 same-length : tie.Need-same-length
 same-length c = reached-4 (c .before .before) .sized
@@ -65,16 +58,13 @@ returns c =
     let z2 = z3 .before .before .before .before in
     let z1 = z2 .before .before .before .before in
     let s = z1 .before .before .before .before in
-    let b = reached-4 z4 in
-    record {
-      adds = adds-line (text "A") (text (statusWord (s .args .shown .status)) ∷ totalWords (s .args .shown .totals))
-          (adds-both (z1 .put-bytes .ensures)
-          (adds-both (z2 .put-status .ensures .adds)
-          (adds-last (totalWords (s .args .shown .totals))
-          (adds-both (z3 .put-totals .ensures .adds)
-          (z4 .put-bytes2 .ensures)))));
-      room = omega arith;
-    }
+    reached-line (reached-4 z4) (lit≤ tt)
+    (adds-line (text "A") (text (statusWord (s .args .shown .status)) ∷ totalWords (s .args .shown .totals))
+    (adds-both (z1 .put-bytes .ensures)
+    (adds-both (z2 .put-status .ensures .adds)
+    (adds-last (totalWords (s .args .shown .totals))
+    (adds-both (z3 .put-totals .ensures .adds)
+    (z4 .put-bytes2 .ensures))))))
 
 pub put-run-spec : {M : Type 1} → statement M
 put-run-spec =

@@ -1,47 +1,38 @@
 -- `lines::put_target` meets its contract.
 -- Assumes nothing.
+use mathlib.Core.Path.{refl}
 use mathlib.Core.List.{[], _∷_, _++_}
-use Prim.Native.Nat.{_+_}
-use native.Mathlib.Omega.{arith}
 use lib.ListN.{length}
-use borrow.Author.Needs.{needs}
+use native.Mathlib.Nat.{le-refl}
+use native.Mathlib.Omega.{arith}
+use lib.Dec.{lit≤}
 use Rattle.audit_rules.specs.Sheet.{statusWord}
 use Rattle.lines.specs.Text.{text}
 use Rattle.lines.specs.Lines.{totalWords}
-use Rattle.lines.proofs.Adding.{Reached, adds-both, adds-line, adds-fields}
+use Rattle.lines.proofs.Adding.{Reached, reached-none, reached-more, reached-most, reached-name, room-behind, room-name, reached-named, adds-both, adds-line, adds-fields}
 use Rattle.lines.proofs.put_target.Statement.{statement}
 use Rattle.lines.proofs.put_target.Tie as tie
 
-reached-1 : (c : tie.After-put-bytes) → let s = c .before .before .before .before .before in Reached 2 (s .args .out .now) (s .args .at) (c .put-bytes .last .0) (c .put-bytes .result)
-reached-1 c = record { room = omega arith; sized = omega arith }
+reached-1 : (c : tie.After-put-bytes) → let s = c .before .before .before .before .before in Reached 0 2 (s .args .out .now) (s .args .at) (c .put-bytes .last .0) (c .put-bytes .result)
+reached-1 c = reached-more (reached-none _ _) 2 (c .put-bytes .ensures) (lit≤ tt) (c .put-bytes .kept .0)
 
-reached-2 : (c : tie.After-put-bytes2) → let s = c .before .before .before .before .before .before .before .before .before in Reached (length (s .args .name .now) + 2) (s .args .out .now) (s .args .at) (c .put-bytes2 .last .0) (c .put-bytes2 .result)
-reached-2 c =
-    let b = reached-1 (c .before .before .before .before) in
-    record { room = omega arith; sized = omega arith }
+reached-2 : (c : tie.After-put-bytes2) → let s = c .before .before .before .before .before .before .before .before .before in Reached (length (s .args .name .now)) 2 (s .args .out .now) (s .args .at) (c .put-bytes2 .last .0) (c .put-bytes2 .result)
+reached-2 c = reached-name (reached-1 (c .before .before .before .before)) (c .put-bytes2 .ensures) (c .put-bytes2 .kept .0)
 
-reached-3 : (c : tie.After-put-totals) → let s = c .before .before .before .before .before .before .before .before .before .before .before .before .before in Reached (length (s .args .name .now) + 65) (s .args .out .now) (s .args .at) (c .put-totals .last .0) (c .put-totals .result)
-reached-3 c =
-    let b = reached-2 (c .before .before .before .before) in
-    record { room = omega arith; sized = omega arith }
+reached-3 : (c : tie.After-put-totals) → let s = c .before .before .before .before .before .before .before .before .before .before .before .before .before in Reached (length (s .args .name .now)) 65 (s .args .out .now) (s .args .at) (c .put-totals .last .0) (c .put-totals .result)
+reached-3 c = reached-most (reached-2 (c .before .before .before .before)) 63 (c .put-totals .ensures) (c .put-totals .kept .0)
 
-reached-4 : (c : tie.After-put-bytes3) → let s = c .before .before .before .before .before .before .before .before .before .before .before .before .before .before .before .before .before .before in Reached (length (s .args .name .now) + 66) (s .args .out .now) (s .args .at) (c .put-bytes3 .last .0) (c .put-bytes3 .result)
-reached-4 c =
-    let b = reached-3 (c .before .before .before .before .before) in
-    record { room = omega arith; sized = omega arith }
+reached-4 : (c : tie.After-put-bytes3) → let s = c .before .before .before .before .before .before .before .before .before .before .before .before .before .before .before .before .before .before in Reached (length (s .args .name .now)) 66 (s .args .out .now) (s .args .at) (c .put-bytes3 .last .0) (c .put-bytes3 .result)
+reached-4 c = reached-more (reached-3 (c .before .before .before .before .before)) 1 (c .put-bytes3 .ensures) (lit≤ tt) (c .put-bytes3 .kept .0)
 
-reached-5 : (c : tie.After-put-status) → let s = c .before .before .before .before .before .before .before .before .before .before .before .before .before .before .before .before .before .before .before .before .before .before in Reached (length (s .args .name .now) + 107) (s .args .out .now) (s .args .at) (c .put-status .last .0) (c .put-status .result)
-reached-5 c =
-    let b = reached-4 (c .before .before .before .before) in
-    record { room = omega arith; sized = omega arith }
+reached-5 : (c : tie.After-put-status) → let s = c .before .before .before .before .before .before .before .before .before .before .before .before .before .before .before .before .before .before .before .before .before .before in Reached (length (s .args .name .now)) 107 (s .args .out .now) (s .args .at) (c .put-status .last .0) (c .put-status .result)
+reached-5 c = reached-most (reached-4 (c .before .before .before .before)) 41 (c .put-status .ensures) (c .put-status .kept .0)
 
-reached-6 : (c : tie.After-put-bytes4) → let s = c .before .before .before .before .before .before .before .before .before .before .before .before .before .before .before .before .before .before .before .before .before .before .before .before .before .before .before in Reached (length (s .args .name .now) + 108) (s .args .out .now) (s .args .at) (c .put-bytes4 .last .0) (c .put-bytes4 .result)
-reached-6 c =
-    let b = reached-5 (c .before .before .before .before .before) in
-    record { room = omega arith; sized = omega arith }
+reached-6 : (c : tie.After-put-bytes4) → let s = c .before .before .before .before .before .before .before .before .before .before .before .before .before .before .before .before .before .before .before .before .before .before .before .before .before .before .before in Reached (length (s .args .name .now)) 108 (s .args .out .now) (s .args .at) (c .put-bytes4 .last .0) (c .put-bytes4 .result)
+reached-6 c = reached-more (reached-5 (c .before .before .before .before .before)) 1 (c .put-bytes4 .ensures) (lit≤ tt) (c .put-bytes4 .kept .0)
 
 slice-aggregate-put-bytes : tie.Need-slice-aggregate-put-bytes
-slice-aggregate-put-bytes c = search needs
+slice-aggregate-put-bytes c = refl
 
 put-bytes-requires : tie.Need-put-bytes-requires
 put-bytes-requires c κs = omega arith
@@ -49,38 +40,33 @@ put-bytes-requires c κs = omega arith
 put-bytes-requires-2 : tie.Need-put-bytes-requires-2
 put-bytes-requires-2 c κs =
     let s = c .before .before .before .before .before .before .before .before in
-    let b = reached-1 (c .before .before .before) in
-    omega (arith, s .pre)
+    room-name (reached-1 (c .before .before .before)) (lit≤ tt) _ (s .pre)
 
 put-totals-requires : tie.Need-put-totals-requires
 put-totals-requires c κs =
     let s = c .before .before .before .before .before .before .before .before .before .before .before .before in
-    let b = reached-2 (c .before .before .before) in
-    omega (arith, s .pre)
+    room-behind (reached-2 (c .before .before .before)) (le-refl 63) (lit≤ tt) (s .pre)
 
 slice-aggregate-put-bytes-2 : tie.Need-slice-aggregate-put-bytes-2
-slice-aggregate-put-bytes-2 c = search needs
+slice-aggregate-put-bytes-2 c = refl
 
 put-bytes-requires-3 : tie.Need-put-bytes-requires-3
 put-bytes-requires-3 c κs =
     let s = c .before .before .before .before .before .before .before .before .before .before .before .before .before .before .before .before .before in
-    let b = reached-3 (c .before .before .before .before) in
-    omega (arith, s .pre)
+    room-behind (reached-3 (c .before .before .before .before)) (le-refl 1) (lit≤ tt) (s .pre)
 
 put-status-requires : tie.Need-put-status-requires
 put-status-requires c κs =
     let s = c .before .before .before .before .before .before .before .before .before .before .before .before .before .before .before .before .before .before .before .before .before in
-    let b = reached-4 (c .before .before .before) in
-    omega (arith, s .pre)
+    room-behind (reached-4 (c .before .before .before)) (le-refl 41) (lit≤ tt) (s .pre)
 
 slice-aggregate-put-bytes-3 : tie.Need-slice-aggregate-put-bytes-3
-slice-aggregate-put-bytes-3 c = search needs
+slice-aggregate-put-bytes-3 c = refl
 
 put-bytes-requires-4 : tie.Need-put-bytes-requires-4
 put-bytes-requires-4 c κs =
     let s = c .before .before .before .before .before .before .before .before .before .before .before .before .before .before .before .before .before .before .before .before .before .before .before .before .before .before in
-    let b = reached-5 (c .before .before .before .before) in
-    omega (arith, s .pre)
+    room-behind (reached-5 (c .before .before .before .before)) (le-refl 1) (lit≤ tt) (s .pre)
 
 same-length : tie.Need-same-length
 same-length c = reached-6 (c .before .before) .sized
@@ -94,18 +80,15 @@ returns c =
     let z2 = z3 .before .before .before .before in
     let z1 = z2 .before .before .before .before in
     let s = z1 .before .before .before .before .before in
-    let b = reached-6 z6 in
-    record {
-      adds = adds-line (text "T") (s .args .name .now ∷ totalWords (s .args .shown .totals) ++ text (statusWord (s .args .shown .status)) ∷ [])
-          (adds-both (z1 .put-bytes .ensures)
-          (adds-both (z2 .put-bytes2 .ensures)
-          (adds-fields (totalWords (s .args .shown .totals)) (text (statusWord (s .args .shown .status)) ∷ [])
-          (adds-both (z3 .put-totals .ensures .adds)
-          (adds-both (z4 .put-bytes3 .ensures)
-          (adds-both (z5 .put-status .ensures .adds)
-          (z6 .put-bytes4 .ensures)))))));
-      room = omega arith;
-    }
+    reached-named (reached-6 z6) (lit≤ tt)
+    (adds-line (text "T") (s .args .name .now ∷ totalWords (s .args .shown .totals) ++ text (statusWord (s .args .shown .status)) ∷ [])
+    (adds-both (z1 .put-bytes .ensures)
+    (adds-both (z2 .put-bytes2 .ensures)
+    (adds-fields (totalWords (s .args .shown .totals)) (text (statusWord (s .args .shown .status)) ∷ [])
+    (adds-both (z3 .put-totals .ensures .adds)
+    (adds-both (z4 .put-bytes3 .ensures)
+    (adds-both (z5 .put-status .ensures .adds)
+    (z6 .put-bytes4 .ensures))))))))
 
 pub put-target-spec : {M : Type 1} → statement M
 put-target-spec =
