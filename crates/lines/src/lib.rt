@@ -5,7 +5,7 @@ ghost use Rattle.promises.specs.Slice.{old, new};
 ghost use Rattle.audit_rules.specs.Settings.{roleNumber};
 ghost use Rattle.audit_rules.specs.Calls.{mappingRow};
 ghost use Rattle.lines.specs.Lines.{lineRoom, refusalLine, readLine, groupLine, countLine, targetLine, runLine};
-ghost use Rattle.lines.specs.Writing.{AddsAtMost};
+ghost use Rattle.texts.specs.Writing.{AddsAtMost};
 use answers::answer::Mapping;
 use answers::answer::state_number;
 use audit_rules::settings::MateRole;
@@ -15,11 +15,8 @@ use fields::put_role;
 use fields::put_status;
 use fields::put_strand;
 use fields::put_totals;
-use text::put_bytes;
-use text::put_decimal;
-
-pub mod fields;
-pub mod text;
+use texts::put_bytes;
+use texts::put_decimal;
 
 // E number.
 pub fn put_refusal(out: &mut [u8], at: usize, number: u64) -> usize

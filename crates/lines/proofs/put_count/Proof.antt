@@ -6,10 +6,11 @@ use native.Mathlib.Nat.{le-refl}
 use native.Mathlib.Omega.{arith}
 use lib.Dec.{lit≤}
 use Rattle.audit_rules.specs.Settings.{roleNumber}
-use Rattle.lines.specs.Text.{text, decimal}
-use Rattle.lines.specs.Lines.{roleWord}
-use Rattle.lines.proofs.Adding.{Reached, reached-none, reached-more, reached-most, room-left, reached-line, adds-both, adds-line}
-use Rattle.lines.proofs.Decimal.{decimal-room}
+use Rattle.texts.specs.Text.{text, decimal}
+use Rattle.fields.specs.Fields.{roleWord}
+use Rattle.texts.proofs.Adding.{adds-both}
+use Rattle.texts.proofs.Decimal.{decimal-room}
+use Rattle.lines.proofs.Lining.{Reached, reached-none, reached-more, reached-most, room-left, reached-line, adds-line}
 use Rattle.lines.proofs.put_count.Statement.{statement}
 use Rattle.lines.proofs.put_count.Tie as tie
 

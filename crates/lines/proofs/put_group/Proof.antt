@@ -6,10 +6,11 @@ use lib.ListN.{length}
 use native.Mathlib.Nat.{le-refl}
 use native.Mathlib.Omega.{arith}
 use lib.Dec.{lit≤}
-use Rattle.lines.specs.Text.{text, decimal}
-use Rattle.lines.specs.Lines.{strandWord}
-use Rattle.lines.proofs.Adding.{Reached, reached-none, reached-more, reached-most, reached-name, room-behind, room-name, reached-named, adds-both, adds-line}
-use Rattle.lines.proofs.Decimal.{decimal-room}
+use Rattle.texts.specs.Text.{text, decimal}
+use Rattle.fields.specs.Fields.{strandWord}
+use Rattle.texts.proofs.Adding.{adds-both}
+use Rattle.texts.proofs.Decimal.{decimal-room}
+use Rattle.lines.proofs.Lining.{Reached, reached-none, reached-more, reached-most, reached-name, room-behind, room-name, reached-named, adds-line}
 use Rattle.lines.proofs.put_group.Statement.{statement}
 use Rattle.lines.proofs.put_group.Tie as tie
 

@@ -9,10 +9,11 @@ use borrow.Author.Needs.{needs}
 use Rattle.answers.specs.Answer.{stateNumber}
 use Rattle.audit_rules.specs.Settings.{roleNumber}
 use Rattle.audit_rules.specs.Calls.{mappingRow}
-use Rattle.lines.specs.Text.{text, decimal}
-use Rattle.lines.specs.Lines.{roleWord, placesWord}
-use Rattle.lines.proofs.Adding.{Reached, reached-none, reached-more, reached-most, room-left, reached-line, adds-both, adds-line}
-use Rattle.lines.proofs.Decimal.{decimal-room}
+use Rattle.texts.specs.Text.{text, decimal}
+use Rattle.fields.specs.Fields.{roleWord, placesWord}
+use Rattle.texts.proofs.Adding.{adds-both}
+use Rattle.texts.proofs.Decimal.{decimal-room}
+use Rattle.lines.proofs.Lining.{Reached, reached-none, reached-more, reached-most, room-left, reached-line, adds-line}
 use Rattle.lines.proofs.put_read.Statement.{statement}
 use Rattle.lines.proofs.put_read.Tie as tie
 

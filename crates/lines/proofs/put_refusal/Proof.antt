@@ -5,9 +5,10 @@ use mathlib.Core.List.{[], _∷_}
 use native.Mathlib.Nat.{le-refl}
 use native.Mathlib.Omega.{arith}
 use lib.Dec.{lit≤}
-use Rattle.lines.specs.Text.{text, decimal}
-use Rattle.lines.proofs.Adding.{Reached, reached-none, reached-more, room-left, reached-line, adds-both, adds-line}
-use Rattle.lines.proofs.Decimal.{decimal-room}
+use Rattle.texts.specs.Text.{text, decimal}
+use Rattle.texts.proofs.Adding.{adds-both}
+use Rattle.texts.proofs.Decimal.{decimal-room}
+use Rattle.lines.proofs.Lining.{Reached, reached-none, reached-more, room-left, reached-line, adds-line}
 use Rattle.lines.proofs.put_refusal.Statement.{statement}
 use Rattle.lines.proofs.put_refusal.Tie as tie
 

@@ -6,9 +6,10 @@ use native.Mathlib.Nat.{le-refl}
 use native.Mathlib.Omega.{arith}
 use lib.Dec.{lit≤}
 use Rattle.audit_rules.specs.Sheet.{statusWord}
-use Rattle.lines.specs.Text.{text}
-use Rattle.lines.specs.Lines.{totalWords}
-use Rattle.lines.proofs.Adding.{Reached, reached-none, reached-more, reached-most, room-left, reached-line, adds-both, adds-line, adds-last}
+use Rattle.texts.specs.Text.{text}
+use Rattle.fields.specs.Fields.{totalWords}
+use Rattle.texts.proofs.Adding.{adds-both}
+use Rattle.lines.proofs.Lining.{Reached, reached-none, reached-more, reached-most, room-left, reached-line, adds-line, adds-last}
 use Rattle.lines.proofs.put_run.Statement.{statement}
 use Rattle.lines.proofs.put_run.Tie as tie
 

@@ -7,9 +7,10 @@ use native.Mathlib.Nat.{le-refl}
 use native.Mathlib.Omega.{arith}
 use lib.Dec.{lit≤}
 use Rattle.audit_rules.specs.Sheet.{statusWord}
-use Rattle.lines.specs.Text.{text}
-use Rattle.lines.specs.Lines.{totalWords}
-use Rattle.lines.proofs.Adding.{Reached, reached-none, reached-more, reached-most, reached-name, room-behind, room-name, reached-named, adds-both, adds-line, adds-fields}
+use Rattle.texts.specs.Text.{text}
+use Rattle.fields.specs.Fields.{totalWords}
+use Rattle.texts.proofs.Adding.{adds-both}
+use Rattle.lines.proofs.Lining.{Reached, reached-none, reached-more, reached-most, reached-name, room-behind, room-name, reached-named, adds-line, adds-fields}
 use Rattle.lines.proofs.put_target.Statement.{statement}
 use Rattle.lines.proofs.put_target.Tie as tie
 

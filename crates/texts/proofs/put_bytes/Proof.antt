@@ -1,12 +1,12 @@
--- `lines::text::put_bytes` meets its contract. The loop's invariant: the bytes passed stand behind those of the output.
+-- `texts::put_bytes` meets its contract. The loop's invariant: the bytes passed stand behind those of the output.
 -- Assumes nothing.
 use Prim.Native.Nat.{_-_}
 use mathlib.Core.Path.{_≡_}
 use native.Mathlib.Omega.{arith}
 use lib.ListN.{length}
-use Rattle.lines.proofs.Adding.{Copied, copied-none, copied-more, copied-all}
-use Rattle.lines.proofs.text.put_bytes.Statement.{statement}
-use Rattle.lines.proofs.text.put_bytes.Tie as tie
+use Rattle.texts.proofs.Adding.{Copied, copied-none, copied-more, copied-all}
+use Rattle.texts.proofs.put_bytes.Statement.{statement}
+use Rattle.texts.proofs.put_bytes.Tie as tie
 
 abbrev Inv-loop : tie.InvT-loop
 Inv-loop out₀ at bytes n i₀ out i = Copied out₀ at bytes out i

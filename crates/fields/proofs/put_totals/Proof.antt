@@ -1,11 +1,11 @@
--- `lines::fields::put_totals` meets its contract.
+-- `fields::put_totals` meets its contract.
 -- Assumes nothing.
 use native.Mathlib.Omega.{arith}
 use borrow.Author.Needs.{needs}
-use Rattle.lines.proofs.Adding.{adds-both, adds-none}
-use Rattle.lines.proofs.Decimal.{decimal-room}
-use Rattle.lines.proofs.fields.put_totals.Statement.{statement}
-use Rattle.lines.proofs.fields.put_totals.Tie as tie
+use Rattle.texts.proofs.Adding.{adds-both, adds-none}
+use Rattle.texts.proofs.Decimal.{decimal-room}
+use Rattle.fields.proofs.put_totals.Statement.{statement}
+use Rattle.fields.proofs.put_totals.Tie as tie
 
 enum-told : tie.Need-enum-told
 enum-told c = search needs

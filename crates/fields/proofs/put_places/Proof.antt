@@ -1,12 +1,12 @@
--- `lines::fields::put_places` meets its contract.
+-- `fields::put_places` meets its contract.
 -- Assumes nothing.
 use native.Mathlib.Omega.{arith}
 use borrow.Author.Tests.{lt-ltb, le-ltb}
 use borrow.Author.Needs.{needs}
 use Rattle.answers.specs.Answer.{stateNumber}
-use Rattle.lines.proofs.Decimal.{decimal-room}
-use Rattle.lines.proofs.fields.put_places.Statement.{statement}
-use Rattle.lines.proofs.fields.put_places.Tie as tie
+use Rattle.texts.proofs.Decimal.{decimal-room}
+use Rattle.fields.proofs.put_places.Statement.{statement}
+use Rattle.fields.proofs.put_places.Tie as tie
 
 state-number-requires : tie.Need-state-number-requires
 state-number-requires c κs = search needs

@@ -1,17 +1,17 @@
--- `lines::text::put_decimal` meets its contract. The digits of the tenth stand before the last; the tenth is less than the number.
+-- `texts::put_decimal` meets its contract. The digits of the tenth stand before the last; the tenth is less than the number.
 -- Assumes nothing.
 use Prim.Native.Nat.{ℕ, _<_}
 use native.Mathlib.Omega.{arith}
 use borrow.Author.Needs.{needs}
 use borrow.Fn.Kinds.{In}
 use borrow.Fn.PlainCycle.{Measures, is, falls, and}
-use Rattle.lines.proofs.Adding.{adds-both, adds-byte}
-use Rattle.lines.proofs.Decimal.{decimal-digit, decimal-tenth, length-decimal-digit, length-decimal-tenth}
-use Rattle.lines.proofs.text.put_decimal.Reads as put-decimal
-use Rattle.lines.proofs.text.put_decimal.Kinds as kinds
-use Rattle.lines.proofs.text.+put_decimal.Lts-put_decimal as lts
-use Rattle.lines.proofs.text.+put_decimal.{statement}
-use Rattle.lines.proofs.text.+put_decimal.Tie.{close}
+use Rattle.texts.proofs.Adding.{adds-both, adds-byte}
+use Rattle.texts.proofs.Decimal.{decimal-digit, decimal-tenth, length-decimal-digit, length-decimal-tenth}
+use Rattle.texts.proofs.put_decimal.Reads as put-decimal
+use Rattle.texts.proofs.put_decimal.Kinds as kinds
+use Rattle.texts.proofs.+put_decimal.Lts-put_decimal as lts
+use Rattle.texts.proofs.+put_decimal.{statement}
+use Rattle.texts.proofs.+put_decimal.Tie.{close}
 
 -- the measure is the number
 abbrev μ : Measures 1 kinds.ps ℕ

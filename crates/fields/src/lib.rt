@@ -1,20 +1,20 @@
-// The fields of lines.
+// The fields of lines, each written behind the bytes of an output.
 ghost use Prim.Native.Nat.{_+_, _≤_};
 ghost use lib.ListN.{length};
 ghost use Rattle.promises.specs.Slice.{old, new};
 ghost use Rattle.audit_rules.specs.Settings.{roleNumber};
 ghost use Rattle.audit_rules.specs.Sheet.{statusWord};
 ghost use Rattle.audit_rules.specs.Calls.{mappingRow};
-ghost use Rattle.lines.specs.Text.{text, spaced};
-ghost use Rattle.lines.specs.Lines.{roleWord, placesWord, strandWord, totalWords};
-ghost use Rattle.lines.specs.Writing.{AddsAtMost};
-use crate::text::put_bytes;
-use crate::text::put_decimal;
+ghost use Rattle.texts.specs.Text.{text, spaced};
+ghost use Rattle.fields.specs.Fields.{roleWord, placesWord, strandWord, totalWords};
+ghost use Rattle.texts.specs.Writing.{AddsAtMost};
 use answers::answer::Mapping;
 use answers::answer::state_number;
 use audit_rules::settings::MateRole;
 use audit_rules::sheet::Availability;
 use audit_rules::sheet::Status;
+use texts::put_bytes;
+use texts::put_decimal;
 
 // A role.
 pub fn put_role(out: &mut [u8], at: usize, role: MateRole) -> usize

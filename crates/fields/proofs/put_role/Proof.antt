@@ -1,9 +1,9 @@
--- `lines::fields::put_role` meets its contract.
+-- `fields::put_role` meets its contract.
 -- Assumes nothing.
 use native.Mathlib.Omega.{arith}
 use borrow.Author.Needs.{needs}
-use Rattle.lines.proofs.fields.put_role.Statement.{statement}
-use Rattle.lines.proofs.fields.put_role.Tie as tie
+use Rattle.fields.proofs.put_role.Statement.{statement}
+use Rattle.fields.proofs.put_role.Tie as tie
 
 enum-told : tie.Need-enum-told
 enum-told c = search needs

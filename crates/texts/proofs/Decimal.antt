@@ -8,7 +8,7 @@ use lib.ListN.{length, length-append}
 use lib.Dec.{ltb}
 use borrow.Author.Tests.{ltb-false, lt-ltb, le-ltb}
 use Rattle.lists.proofs.Cases.{by-test}
-use Rattle.lines.specs.Text.{digit, digits, decimal}
+use Rattle.texts.specs.Text.{digit, digits, decimal}
 
 -- examples
 zero-told : decimal 0 ≡ 48 ∷ []

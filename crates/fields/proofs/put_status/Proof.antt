@@ -1,9 +1,9 @@
--- `lines::fields::put_status` meets its contract.
+-- `fields::put_status` meets its contract.
 -- Assumes nothing.
 use native.Mathlib.Omega.{arith}
 use borrow.Author.Needs.{needs}
-use Rattle.lines.proofs.fields.put_status.Statement.{statement}
-use Rattle.lines.proofs.fields.put_status.Tie as tie
+use Rattle.fields.proofs.put_status.Statement.{statement}
+use Rattle.fields.proofs.put_status.Tie as tie
 
 enum-told : tie.Need-enum-told
 enum-told c = search needs

@@ -1,10 +1,10 @@
--- `lines::fields::put_strand` meets its contract.
+-- `fields::put_strand` meets its contract.
 -- Assumes nothing.
 use native.Mathlib.Omega.{arith}
 use borrow.Author.Tests.{ne-eqb}
 use borrow.Author.Needs.{needs}
-use Rattle.lines.proofs.fields.put_strand.Statement.{statement}
-use Rattle.lines.proofs.fields.put_strand.Tie as tie
+use Rattle.fields.proofs.put_strand.Statement.{statement}
+use Rattle.fields.proofs.put_strand.Tie as tie
 
 slice-aggregate-put-bytes : tie.Need-slice-aggregate-put-bytes
 slice-aggregate-put-bytes c = search needs
