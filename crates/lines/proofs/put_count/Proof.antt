@@ -5,15 +5,37 @@ use mathlib.Core.List.{[], _∷_}
 use native.Mathlib.Nat.{le-refl}
 use native.Mathlib.Omega.{arith}
 use lib.Dec.{lit≤}
-use Rattle.audit_rules.specs.Settings.{roleNumber}
 use Rattle.texts.specs.Text.{text, decimal}
-use Rattle.fields.specs.Fields.{roleWord}
+use Rattle.texts.specs.Writing.{Adds}
 use Rattle.texts.proofs.Adding.{adds-both}
 use Rattle.texts.proofs.Decimal.{decimal-room}
+use Rattle.audit_rules.specs.Settings.{roleNumber}
+use Rattle.fields.specs.Fields.{roleWord}
+use Rattle.lines.specs.Lines.{countLine}
 use Rattle.lines.proofs.Lining.{Reached, reached-none, reached-more, reached-most, room-left, reached-line, adds-line}
 use Rattle.lines.proofs.put_count.Statement.{statement}
 use Rattle.lines.proofs.put_count.Tie as tie
 
+-- its bytes
+added : (c : tie.After-put-bytes4) → let s = c .before .before .before .before .before .before .before .before .before .before .before .before .before .before .before .before .before .before .before .before .before .before .before .before .before .before .before .before .before .before .before in Adds (countLine (roleNumber (s .args .role)) (s .args .state) (s .args .count)) (s .args .out .now) (s .args .at) (c .put-bytes4 .last .0) (c .put-bytes4 .result)
+added c =
+    let z6 = c .before .before .before .before .before in
+    let z5 = z6 .before .before .before .before in
+    let z4 = z5 .before .before .before .before .before in
+    let z3 = z4 .before .before .before .before in
+    let z2 = z3 .before .before .before .before .before in
+    let z1 = z2 .before .before .before .before in
+    let s = z1 .before .before .before .before in
+    adds-line (text "S") (roleWord (roleNumber (s .args .role)) ∷ decimal (s .args .state) ∷ decimal (s .args .count) ∷ [])
+    (adds-both (z1 .put-bytes .ensures)
+    (adds-both (z2 .put-role .ensures .adds)
+    (adds-both (z3 .put-bytes2 .ensures)
+    (adds-both (z4 .put-decimal .ensures)
+    (adds-both (z5 .put-bytes3 .ensures)
+    (adds-both (z6 .put-decimal2 .ensures)
+    (c .put-bytes4 .ensures)))))))
+
+-- the room that is left
 reached-1 : (c : tie.After-put-bytes) → let s = c .before .before .before .before in Reached 0 2 (s .args .out .now) (s .args .at) (c .put-bytes .last .0) (c .put-bytes .result)
 reached-1 c = reached-more (reached-none _ _) 2 (c .put-bytes .ensures) (lit≤ tt) (c .put-bytes .kept .0)
 
@@ -88,24 +110,7 @@ same-length : tie.Need-same-length
 same-length c = reached-7 (c .before .before) .sized
 
 returns : tie.Need-returns
-returns c =
-    let z7 = c .before .before in
-    let z6 = z7 .before .before .before .before .before in
-    let z5 = z6 .before .before .before .before in
-    let z4 = z5 .before .before .before .before .before in
-    let z3 = z4 .before .before .before .before in
-    let z2 = z3 .before .before .before .before .before in
-    let z1 = z2 .before .before .before .before in
-    let s = z1 .before .before .before .before in
-    reached-line (reached-7 z7) (lit≤ tt)
-    (adds-line (text "S") (roleWord (roleNumber (s .args .role)) ∷ decimal (s .args .state) ∷ decimal (s .args .count) ∷ [])
-    (adds-both (z1 .put-bytes .ensures)
-    (adds-both (z2 .put-role .ensures .adds)
-    (adds-both (z3 .put-bytes2 .ensures)
-    (adds-both (z4 .put-decimal .ensures)
-    (adds-both (z5 .put-bytes3 .ensures)
-    (adds-both (z6 .put-decimal2 .ensures)
-    (z7 .put-bytes4 .ensures))))))))
+returns c = reached-line (reached-7 (c .before .before)) (lit≤ tt) (added (c .before .before))
 
 pub put-count-spec : {M : Type 1} → statement M
 put-count-spec =

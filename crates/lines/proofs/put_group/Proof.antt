@@ -7,13 +7,39 @@ use native.Mathlib.Nat.{le-refl}
 use native.Mathlib.Omega.{arith}
 use lib.Dec.{lit≤}
 use Rattle.texts.specs.Text.{text, decimal}
-use Rattle.fields.specs.Fields.{strandWord}
+use Rattle.texts.specs.Writing.{Adds}
 use Rattle.texts.proofs.Adding.{adds-both}
 use Rattle.texts.proofs.Decimal.{decimal-room}
+use Rattle.fields.specs.Fields.{strandWord}
+use Rattle.lines.specs.Lines.{groupLine}
 use Rattle.lines.proofs.Lining.{Reached, reached-none, reached-more, reached-most, reached-name, room-behind, room-name, reached-named, adds-line}
 use Rattle.lines.proofs.put_group.Statement.{statement}
 use Rattle.lines.proofs.put_group.Tie as tie
 
+-- its bytes
+added : (c : tie.After-put-bytes6) → let s = c .before .before .before .before .before .before .before .before .before .before .before .before .before .before .before .before .before .before .before .before .before .before .before .before .before .before .before .before .before .before .before .before .before .before .before .before .before .before .before .before .before in Adds (groupLine (s .args .name .now) (s .args .start) (s .args .end) (s .args .strand)) (s .args .out .now) (s .args .at) (c .put-bytes6 .last .0) (c .put-bytes6 .result)
+added c =
+    let z8 = c .before .before .before .before .before in
+    let z7 = z8 .before .before .before .before in
+    let z6 = z7 .before .before .before .before .before in
+    let z5 = z6 .before .before .before .before in
+    let z4 = z5 .before .before .before .before .before in
+    let z3 = z4 .before .before .before .before in
+    let z2 = z3 .before .before .before .before .before in
+    let z1 = z2 .before .before .before .before in
+    let s = z1 .before .before .before .before .before in
+    adds-line (text "G") (s .args .name .now ∷ decimal (s .args .start) ∷ decimal (s .args .end) ∷ strandWord (s .args .strand) ∷ [])
+    (adds-both (z1 .put-bytes .ensures)
+    (adds-both (z2 .put-bytes2 .ensures)
+    (adds-both (z3 .put-bytes3 .ensures)
+    (adds-both (z4 .put-decimal .ensures)
+    (adds-both (z5 .put-bytes4 .ensures)
+    (adds-both (z6 .put-decimal2 .ensures)
+    (adds-both (z7 .put-bytes5 .ensures)
+    (adds-both (z8 .put-strand .ensures .adds)
+    (c .put-bytes6 .ensures)))))))))
+
+-- the room that is left
 reached-1 : (c : tie.After-put-bytes) → let s = c .before .before .before .before .before in Reached 0 2 (s .args .out .now) (s .args .at) (c .put-bytes .last .0) (c .put-bytes .result)
 reached-1 c = reached-more (reached-none _ _) 2 (c .put-bytes .ensures) (lit≤ tt) (c .put-bytes .kept .0)
 
@@ -107,28 +133,7 @@ same-length : tie.Need-same-length
 same-length c = reached-9 (c .before .before) .sized
 
 returns : tie.Need-returns
-returns c =
-    let z9 = c .before .before in
-    let z8 = z9 .before .before .before .before .before in
-    let z7 = z8 .before .before .before .before in
-    let z6 = z7 .before .before .before .before .before in
-    let z5 = z6 .before .before .before .before in
-    let z4 = z5 .before .before .before .before .before in
-    let z3 = z4 .before .before .before .before in
-    let z2 = z3 .before .before .before .before .before in
-    let z1 = z2 .before .before .before .before in
-    let s = z1 .before .before .before .before .before in
-    reached-named (reached-9 z9) (lit≤ tt)
-    (adds-line (text "G") (s .args .name .now ∷ decimal (s .args .start) ∷ decimal (s .args .end) ∷ strandWord (s .args .strand) ∷ [])
-    (adds-both (z1 .put-bytes .ensures)
-    (adds-both (z2 .put-bytes2 .ensures)
-    (adds-both (z3 .put-bytes3 .ensures)
-    (adds-both (z4 .put-decimal .ensures)
-    (adds-both (z5 .put-bytes4 .ensures)
-    (adds-both (z6 .put-decimal2 .ensures)
-    (adds-both (z7 .put-bytes5 .ensures)
-    (adds-both (z8 .put-strand .ensures .adds)
-    (z9 .put-bytes6 .ensures))))))))))
+returns c = reached-named (reached-9 (c .before .before)) (lit≤ tt) (added (c .before .before))
 
 pub put-group-spec : {M : Type 1} → statement M
 put-group-spec =

@@ -6,17 +6,43 @@ use native.Mathlib.Nat.{le-refl}
 use native.Mathlib.Omega.{arith}
 use lib.Dec.{lit≤}
 use borrow.Author.Needs.{needs}
+use Rattle.texts.specs.Text.{text, decimal}
+use Rattle.texts.specs.Writing.{Adds}
+use Rattle.texts.proofs.Adding.{adds-both}
+use Rattle.texts.proofs.Decimal.{decimal-room}
 use Rattle.answers.specs.Answer.{stateNumber}
 use Rattle.audit_rules.specs.Settings.{roleNumber}
 use Rattle.audit_rules.specs.Calls.{mappingRow}
-use Rattle.texts.specs.Text.{text, decimal}
 use Rattle.fields.specs.Fields.{roleWord, placesWord}
-use Rattle.texts.proofs.Adding.{adds-both}
-use Rattle.texts.proofs.Decimal.{decimal-room}
+use Rattle.lines.specs.Lines.{readLine}
 use Rattle.lines.proofs.Lining.{Reached, reached-none, reached-more, reached-most, room-left, reached-line, adds-line}
 use Rattle.lines.proofs.put_read.Statement.{statement}
 use Rattle.lines.proofs.put_read.Tie as tie
 
+-- its bytes
+added : (c : tie.After-put-bytes5) → let s = c .before .before .before .before .before .before .before .before .before .before .before .before .before .before .before .before .before .before .before .before .before .before .before .before .before .before .before .before .before .before .before .before .before .before .before .before .before .before .before .before .before in Adds (readLine (s .args .ordinal) (roleNumber (s .args .role)) (mappingRow (s .args .mapping))) (s .args .out .now) (s .args .at) (c .put-bytes5 .last .0) (c .put-bytes5 .result)
+added c =
+    let z8 = c .before .before .before .before .before in
+    let z7 = z8 .before .before .before .before in
+    let z6 = z7 .before .before .before .before .before in
+    let z5 = z6 .before .before .before .before .before in
+    let z4 = z5 .before .before .before .before .before in
+    let z3 = z4 .before .before .before .before in
+    let z2 = z3 .before .before .before .before .before in
+    let z1 = z2 .before .before .before .before in
+    let s = z1 .before .before .before .before in
+    adds-line (text "R") (decimal (s .args .ordinal) ∷ roleWord (roleNumber (s .args .role)) ∷ decimal (stateNumber (s .args .mapping .state)) ∷ placesWord (mappingRow (s .args .mapping)) ∷ [])
+    (adds-both (z1 .put-bytes .ensures)
+    (adds-both (z2 .put-decimal .ensures)
+    (adds-both (z3 .put-bytes2 .ensures)
+    (adds-both (z4 .put-role .ensures .adds)
+    (adds-both (z5 .put-bytes3 .ensures)
+    (adds-both (rw (z6 .before .state-number .ensures) at (z6 .put-decimal2 .ensures))
+    (adds-both (z7 .put-bytes4 .ensures)
+    (adds-both (z8 .put-places .ensures .adds)
+    (c .put-bytes5 .ensures)))))))))
+
+-- the room that is left
 reached-1 : (c : tie.After-put-bytes) → let s = c .before .before .before .before in Reached 0 2 (s .args .out .now) (s .args .at) (c .put-bytes .last .0) (c .put-bytes .result)
 reached-1 c = reached-more (reached-none _ _) 2 (c .put-bytes .ensures) (lit≤ tt) (c .put-bytes .kept .0)
 
@@ -111,28 +137,7 @@ same-length : tie.Need-same-length
 same-length c = reached-9 (c .before .before) .sized
 
 returns : tie.Need-returns
-returns c =
-    let z9 = c .before .before in
-    let z8 = z9 .before .before .before .before .before in
-    let z7 = z8 .before .before .before .before in
-    let z6 = z7 .before .before .before .before .before in
-    let z5 = z6 .before .before .before .before .before in
-    let z4 = z5 .before .before .before .before .before in
-    let z3 = z4 .before .before .before .before in
-    let z2 = z3 .before .before .before .before .before in
-    let z1 = z2 .before .before .before .before in
-    let s = z1 .before .before .before .before in
-    reached-line (reached-9 z9) (lit≤ tt)
-    (adds-line (text "R") (decimal (s .args .ordinal) ∷ roleWord (roleNumber (s .args .role)) ∷ decimal (stateNumber (s .args .mapping .state)) ∷ placesWord (mappingRow (s .args .mapping)) ∷ [])
-    (adds-both (z1 .put-bytes .ensures)
-    (adds-both (z2 .put-decimal .ensures)
-    (adds-both (z3 .put-bytes2 .ensures)
-    (adds-both (z4 .put-role .ensures .adds)
-    (adds-both (z5 .put-bytes3 .ensures)
-    (adds-both (rw (z6 .before .state-number .ensures) at (z6 .put-decimal2 .ensures))
-    (adds-both (z7 .put-bytes4 .ensures)
-    (adds-both (z8 .put-places .ensures .adds)
-    (z9 .put-bytes5 .ensures))))))))))
+returns c = reached-line (reached-9 (c .before .before)) (lit≤ tt) (added (c .before .before))
 
 pub put-read-spec : {M : Type 1} → statement M
 put-read-spec =

@@ -6,12 +6,26 @@ use native.Mathlib.Nat.{le-refl}
 use native.Mathlib.Omega.{arith}
 use lib.Dec.{lit≤}
 use Rattle.texts.specs.Text.{text, decimal}
+use Rattle.texts.specs.Writing.{Adds}
 use Rattle.texts.proofs.Adding.{adds-both}
 use Rattle.texts.proofs.Decimal.{decimal-room}
+use Rattle.lines.specs.Lines.{refusalLine}
 use Rattle.lines.proofs.Lining.{Reached, reached-none, reached-more, room-left, reached-line, adds-line}
 use Rattle.lines.proofs.put_refusal.Statement.{statement}
 use Rattle.lines.proofs.put_refusal.Tie as tie
 
+-- its bytes
+added : (c : tie.After-put-bytes2) → let s = c .before .before .before .before .before .before .before .before .before .before .before .before .before in Adds (refusalLine (s .args .number)) (s .args .out .now) (s .args .at) (c .put-bytes2 .last .0) (c .put-bytes2 .result)
+added c =
+    let z2 = c .before .before .before .before .before in
+    let z1 = z2 .before .before .before .before in
+    let s = z1 .before .before .before .before in
+    adds-line (text "E") (decimal (s .args .number) ∷ [])
+    (adds-both (z1 .put-bytes .ensures)
+    (adds-both (z2 .put-decimal .ensures)
+    (c .put-bytes2 .ensures)))
+
+-- the room that is left
 reached-1 : (c : tie.After-put-bytes) → let s = c .before .before .before .before in Reached 0 2 (s .args .out .now) (s .args .at) (c .put-bytes .last .0) (c .put-bytes .result)
 reached-1 c = reached-more (reached-none _ _) 2 (c .put-bytes .ensures) (lit≤ tt) (c .put-bytes .kept .0)
 
@@ -46,16 +60,7 @@ same-length : tie.Need-same-length
 same-length c = reached-3 (c .before .before) .sized
 
 returns : tie.Need-returns
-returns c =
-    let z3 = c .before .before in
-    let z2 = z3 .before .before .before .before .before in
-    let z1 = z2 .before .before .before .before in
-    let s = z1 .before .before .before .before in
-    reached-line (reached-3 z3) (lit≤ tt)
-    (adds-line (text "E") (decimal (s .args .number) ∷ [])
-    (adds-both (z1 .put-bytes .ensures)
-    (adds-both (z2 .put-decimal .ensures)
-    (z3 .put-bytes2 .ensures))))
+returns c = reached-line (reached-3 (c .before .before)) (lit≤ tt) (added (c .before .before))
 
 pub put-refusal-spec : {M : Type 1} → statement M
 put-refusal-spec =

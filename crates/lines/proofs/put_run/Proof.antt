@@ -5,14 +5,31 @@ use mathlib.Core.List.{_∷_}
 use native.Mathlib.Nat.{le-refl}
 use native.Mathlib.Omega.{arith}
 use lib.Dec.{lit≤}
-use Rattle.audit_rules.specs.Sheet.{statusWord}
 use Rattle.texts.specs.Text.{text}
-use Rattle.fields.specs.Fields.{totalWords}
+use Rattle.texts.specs.Writing.{Adds}
 use Rattle.texts.proofs.Adding.{adds-both}
+use Rattle.audit_rules.specs.Sheet.{statusWord}
+use Rattle.fields.specs.Fields.{totalWords}
+use Rattle.lines.specs.Lines.{runLine}
 use Rattle.lines.proofs.Lining.{Reached, reached-none, reached-more, reached-most, room-left, reached-line, adds-line, adds-last}
 use Rattle.lines.proofs.put_run.Statement.{statement}
 use Rattle.lines.proofs.put_run.Tie as tie
 
+-- its bytes
+added : (c : tie.After-put-bytes2) → let s = c .before .before .before .before .before .before .before .before .before .before .before .before .before .before .before .before .before in Adds (runLine (s .args .shown)) (s .args .out .now) (s .args .at) (c .put-bytes2 .last .0) (c .put-bytes2 .result)
+added c =
+    let z3 = c .before .before .before .before .before in
+    let z2 = z3 .before .before .before .before in
+    let z1 = z2 .before .before .before .before in
+    let s = z1 .before .before .before .before in
+    adds-line (text "A") (text (statusWord (s .args .shown .status)) ∷ totalWords (s .args .shown .totals))
+    (adds-both (z1 .put-bytes .ensures)
+    (adds-both (z2 .put-status .ensures .adds)
+    (adds-last (totalWords (s .args .shown .totals))
+    (adds-both (z3 .put-totals .ensures .adds)
+    (c .put-bytes2 .ensures)))))
+
+-- the room that is left
 reached-1 : (c : tie.After-put-bytes) → let s = c .before .before .before .before in Reached 0 2 (s .args .out .now) (s .args .at) (c .put-bytes .last .0) (c .put-bytes .result)
 reached-1 c = reached-more (reached-none _ _) 2 (c .put-bytes .ensures) (lit≤ tt) (c .put-bytes .kept .0)
 
@@ -53,19 +70,7 @@ same-length : tie.Need-same-length
 same-length c = reached-4 (c .before .before) .sized
 
 returns : tie.Need-returns
-returns c =
-    let z4 = c .before .before in
-    let z3 = z4 .before .before .before .before .before in
-    let z2 = z3 .before .before .before .before in
-    let z1 = z2 .before .before .before .before in
-    let s = z1 .before .before .before .before in
-    reached-line (reached-4 z4) (lit≤ tt)
-    (adds-line (text "A") (text (statusWord (s .args .shown .status)) ∷ totalWords (s .args .shown .totals))
-    (adds-both (z1 .put-bytes .ensures)
-    (adds-both (z2 .put-status .ensures .adds)
-    (adds-last (totalWords (s .args .shown .totals))
-    (adds-both (z3 .put-totals .ensures .adds)
-    (z4 .put-bytes2 .ensures))))))
+returns c = reached-line (reached-4 (c .before .before)) (lit≤ tt) (added (c .before .before))
 
 pub put-run-spec : {M : Type 1} → statement M
 put-run-spec =

@@ -6,14 +6,35 @@ use lib.ListN.{length}
 use native.Mathlib.Nat.{le-refl}
 use native.Mathlib.Omega.{arith}
 use lib.Dec.{lit≤}
-use Rattle.audit_rules.specs.Sheet.{statusWord}
 use Rattle.texts.specs.Text.{text}
-use Rattle.fields.specs.Fields.{totalWords}
+use Rattle.texts.specs.Writing.{Adds}
 use Rattle.texts.proofs.Adding.{adds-both}
+use Rattle.audit_rules.specs.Sheet.{statusWord}
+use Rattle.fields.specs.Fields.{totalWords}
+use Rattle.lines.specs.Lines.{targetLine}
 use Rattle.lines.proofs.Lining.{Reached, reached-none, reached-more, reached-most, reached-name, room-behind, room-name, reached-named, adds-line, adds-fields}
 use Rattle.lines.proofs.put_target.Statement.{statement}
 use Rattle.lines.proofs.put_target.Tie as tie
 
+-- its bytes
+added : (c : tie.After-put-bytes4) → let s = c .before .before .before .before .before .before .before .before .before .before .before .before .before .before .before .before .before .before .before .before .before .before .before .before .before .before .before in Adds (targetLine (s .args .name .now) (s .args .shown)) (s .args .out .now) (s .args .at) (c .put-bytes4 .last .0) (c .put-bytes4 .result)
+added c =
+    let z5 = c .before .before .before .before .before in
+    let z4 = z5 .before .before .before .before in
+    let z3 = z4 .before .before .before .before .before in
+    let z2 = z3 .before .before .before .before in
+    let z1 = z2 .before .before .before .before in
+    let s = z1 .before .before .before .before .before in
+    adds-line (text "T") (s .args .name .now ∷ totalWords (s .args .shown .totals) ++ text (statusWord (s .args .shown .status)) ∷ [])
+    (adds-both (z1 .put-bytes .ensures)
+    (adds-both (z2 .put-bytes2 .ensures)
+    (adds-fields (totalWords (s .args .shown .totals)) (text (statusWord (s .args .shown .status)) ∷ [])
+    (adds-both (z3 .put-totals .ensures .adds)
+    (adds-both (z4 .put-bytes3 .ensures)
+    (adds-both (z5 .put-status .ensures .adds)
+    (c .put-bytes4 .ensures)))))))
+
+-- the room that is left
 reached-1 : (c : tie.After-put-bytes) → let s = c .before .before .before .before .before in Reached 0 2 (s .args .out .now) (s .args .at) (c .put-bytes .last .0) (c .put-bytes .result)
 reached-1 c = reached-more (reached-none _ _) 2 (c .put-bytes .ensures) (lit≤ tt) (c .put-bytes .kept .0)
 
@@ -73,23 +94,7 @@ same-length : tie.Need-same-length
 same-length c = reached-6 (c .before .before) .sized
 
 returns : tie.Need-returns
-returns c =
-    let z6 = c .before .before in
-    let z5 = z6 .before .before .before .before .before in
-    let z4 = z5 .before .before .before .before in
-    let z3 = z4 .before .before .before .before .before in
-    let z2 = z3 .before .before .before .before in
-    let z1 = z2 .before .before .before .before in
-    let s = z1 .before .before .before .before .before in
-    reached-named (reached-6 z6) (lit≤ tt)
-    (adds-line (text "T") (s .args .name .now ∷ totalWords (s .args .shown .totals) ++ text (statusWord (s .args .shown .status)) ∷ [])
-    (adds-both (z1 .put-bytes .ensures)
-    (adds-both (z2 .put-bytes2 .ensures)
-    (adds-fields (totalWords (s .args .shown .totals)) (text (statusWord (s .args .shown .status)) ∷ [])
-    (adds-both (z3 .put-totals .ensures .adds)
-    (adds-both (z4 .put-bytes3 .ensures)
-    (adds-both (z5 .put-status .ensures .adds)
-    (z6 .put-bytes4 .ensures))))))))
+returns c = reached-named (reached-6 (c .before .before)) (lit≤ tt) (added (c .before .before))
 
 pub put-target-spec : {M : Type 1} → statement M
 put-target-spec =
