@@ -1,39 +1,12 @@
 -- The lines of `catch` (REFERENCE.md, "Lines").
-use mathlib.Core.Bool.{cond}
 use mathlib.Core.List.{List, [], _∷_, _++_}
 use Prim.Native.Nat.{ℕ, zero, suc}
 use lib.ListN.{getD, drop}
-use lib.Dec.{eqb, ltb}
+use Rattle.texts.specs.Text.{text, decimal, line}
 use Rattle.answers.specs.Answer.{Row}
-use Rattle.audit_rules.specs.declared.settings.MateRole.{MateRole}
-use Rattle.audit_rules.specs.declared.settings.MateRole.the-variants as roles
-use Rattle.audit_rules.specs.declared.sheet.Availability.{Availability}
-use Rattle.audit_rules.specs.declared.sheet.Availability.the-variants as totals
 use Rattle.audit_rules.specs.declared.sheet.Shown.{Shown}
 use Rattle.audit_rules.specs.Sheet.{statusWord}
-use Rattle.lines.specs.Text.{text, decimal, line}
-
--- ---- fields
-
--- the role with a number
-abbrev pub roleWord : ℕ → List ℕ
-roleWord zero = text "S"
-roleWord (suc zero) = text "R1"
-roleWord (suc (suc n)) = text "R2"
-
--- the number of a read's groups; '-' for states 0 to 2
-abbrev pub placesWord : Row → List ℕ
-placesWord r = cond (ltb (r .state) 3) (text "-") (decimal (r .groups))
-
-abbrev pub strandWord : ℕ → List ℕ
-strandWord strand = cond (eqb strand 0) (text "+") (text "-")
-
--- three totals, or '-' for each
-abbrev pub totalWords : Availability → List (List ℕ)
-totalWords totals.Unavailable = text "-" ∷ text "-" ∷ text "-" ∷ []
-totalWords (totals.Available t) = decimal (t .placements) ∷ decimal (t .singles) ∷ decimal (t .multi) ∷ []
-
--- ---- lines
+use Rattle.fields.specs.Fields.{roleWord, placesWord, strandWord, totalWords}
 
 -- no line but for its identifier is longer
 abbrev pub lineRoom : ℕ

@@ -5,7 +5,7 @@ ghost use Rattle.promises.specs.Slice.{old, new};
 ghost use Rattle.audit_rules.specs.Settings.{roleNumber};
 ghost use Rattle.audit_rules.specs.Calls.{mappingRow};
 ghost use Rattle.lines.specs.Lines.{lineRoom, refusalLine, readLine, groupLine, countLine, targetLine, runLine};
-ghost use Rattle.lines.specs.Writing.{Adds};
+ghost use Rattle.texts.specs.Writing.{AddsAtMost};
 use answers::answer::Mapping;
 use answers::answer::state_number;
 use audit_rules::settings::MateRole;
@@ -15,16 +15,13 @@ use fields::put_role;
 use fields::put_status;
 use fields::put_strand;
 use fields::put_totals;
-use text::put_bytes;
-use text::put_decimal;
-
-pub mod fields;
-pub mod text;
+use texts::put_bytes;
+use texts::put_decimal;
 
 // E number.
 pub fn put_refusal(out: &mut [u8], at: usize, number: u64) -> usize
     requires { ⌜ at + lineRoom ≤ length (now out) ⌝ }
-    ensures { λ r. ⌜ Adds (refusalLine number) (old out) at (new out) r ⌝ }
+    ensures { λ r. ⌜ AddsAtMost lineRoom (refusalLine number) (old out) at (new out) r ⌝ }
 {
     let a = put_bytes(out, at, b"E ");
     let b = put_decimal(out, a, number);
@@ -34,7 +31,7 @@ pub fn put_refusal(out: &mut [u8], at: usize, number: u64) -> usize
 // R ordinal, role, state, places.
 pub fn put_read(out: &mut [u8], at: usize, ordinal: u64, role: MateRole, mapping: Mapping) -> usize
     requires { ⌜ at + lineRoom ≤ length (now out) ⌝ }
-    ensures { λ r. ⌜ Adds (readLine ordinal (roleNumber role) (mappingRow mapping)) (old out) at (new out) r ⌝ }
+    ensures { λ r. ⌜ AddsAtMost lineRoom (readLine ordinal (roleNumber role) (mappingRow mapping)) (old out) at (new out) r ⌝ }
 {
     let state = mapping.state;
     let a = put_bytes(out, at, b"R ");
@@ -51,7 +48,7 @@ pub fn put_read(out: &mut [u8], at: usize, ordinal: u64, role: MateRole, mapping
 // G identifier, start, end, strand.
 pub fn put_group(out: &mut [u8], at: usize, name: &[u8], start: u64, end: u64, strand: u64) -> usize
     requires { ⌜ at + length (now name) + lineRoom ≤ length (now out) ⌝ }
-    ensures { λ r. ⌜ Adds (groupLine (old name) start end strand) (old out) at (new out) r ⌝ }
+    ensures { λ r. ⌜ AddsAtMost (length (old name) + lineRoom) (groupLine (old name) start end strand) (old out) at (new out) r ⌝ }
 {
     let a = put_bytes(out, at, b"G ");
     let b = put_bytes(out, a, name);
@@ -67,7 +64,7 @@ pub fn put_group(out: &mut [u8], at: usize, name: &[u8], start: u64, end: u64, s
 // S role, state, count.
 pub fn put_count(out: &mut [u8], at: usize, role: MateRole, state: u64, count: u64) -> usize
     requires { ⌜ at + lineRoom ≤ length (now out) ⌝ }
-    ensures { λ r. ⌜ Adds (countLine (roleNumber role) state count) (old out) at (new out) r ⌝ }
+    ensures { λ r. ⌜ AddsAtMost lineRoom (countLine (roleNumber role) state count) (old out) at (new out) r ⌝ }
 {
     let a = put_bytes(out, at, b"S ");
     let b = put_role(out, a, role);
@@ -81,7 +78,7 @@ pub fn put_count(out: &mut [u8], at: usize, role: MateRole, state: u64, count: u
 // T identifier, placements, singles, multi, status.
 pub fn put_target(out: &mut [u8], at: usize, name: &[u8], shown: Shown) -> usize
     requires { ⌜ at + length (now name) + lineRoom ≤ length (now out) ⌝ }
-    ensures { λ r. ⌜ Adds (targetLine (old name) shown) (old out) at (new out) r ⌝ }
+    ensures { λ r. ⌜ AddsAtMost (length (old name) + lineRoom) (targetLine (old name) shown) (old out) at (new out) r ⌝ }
 {
     let status = shown.status;
     let totals = shown.totals;
@@ -96,7 +93,7 @@ pub fn put_target(out: &mut [u8], at: usize, name: &[u8], shown: Shown) -> usize
 // A status and the three totals.
 pub fn put_run(out: &mut [u8], at: usize, shown: Shown) -> usize
     requires { ⌜ at + lineRoom ≤ length (now out) ⌝ }
-    ensures { λ r. ⌜ Adds (runLine shown) (old out) at (new out) r ⌝ }
+    ensures { λ r. ⌜ AddsAtMost lineRoom (runLine shown) (old out) at (new out) r ⌝ }
 {
     let status = shown.status;
     let totals = shown.totals;

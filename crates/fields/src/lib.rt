@@ -1,26 +1,25 @@
-// The fields of lines.
-ghost use mathlib.Core.List.{_++_};
+// The fields of lines, each written behind the bytes of an output.
 ghost use Prim.Native.Nat.{_+_, _≤_};
 ghost use lib.ListN.{length};
 ghost use Rattle.promises.specs.Slice.{old, new};
 ghost use Rattle.audit_rules.specs.Settings.{roleNumber};
 ghost use Rattle.audit_rules.specs.Sheet.{statusWord};
 ghost use Rattle.audit_rules.specs.Calls.{mappingRow};
-ghost use Rattle.lines.specs.Text.{text, spaced};
-ghost use Rattle.lines.specs.Lines.{roleWord, placesWord, strandWord, totalWords};
-ghost use Rattle.lines.specs.Writing.{Adds};
-use crate::text::put_bytes;
-use crate::text::put_decimal;
+ghost use Rattle.texts.specs.Text.{text, spaced};
+ghost use Rattle.fields.specs.Fields.{roleWord, placesWord, strandWord, totalWords};
+ghost use Rattle.texts.specs.Writing.{AddsAtMost};
 use answers::answer::Mapping;
 use answers::answer::state_number;
 use audit_rules::settings::MateRole;
 use audit_rules::sheet::Availability;
 use audit_rules::sheet::Status;
+use texts::put_bytes;
+use texts::put_decimal;
 
 // A role.
 pub fn put_role(out: &mut [u8], at: usize, role: MateRole) -> usize
     requires { ⌜ at + 2 ≤ length (now out) ⌝ }
-    ensures { λ r. ⌜ Adds (roleWord (roleNumber role)) (old out) at (new out) r ⌝ }
+    ensures { λ r. ⌜ AddsAtMost 2 (roleWord (roleNumber role)) (old out) at (new out) r ⌝ }
 {
     match role {
         MateRole::S => put_bytes(out, at, b"S"),
@@ -32,7 +31,7 @@ pub fn put_role(out: &mut [u8], at: usize, role: MateRole) -> usize
 // The number of a read's groups, or '-' where it was not told.
 pub fn put_places(out: &mut [u8], at: usize, mapping: Mapping) -> usize
     requires { ⌜ at + 20 ≤ length (now out) ⌝ }
-    ensures { λ r. ⌜ Adds (placesWord (mappingRow mapping)) (old out) at (new out) r ⌝ }
+    ensures { λ r. ⌜ AddsAtMost 20 (placesWord (mappingRow mapping)) (old out) at (new out) r ⌝ }
 {
     let state = mapping.state;
     if state_number(state) < 3 {
@@ -44,7 +43,7 @@ pub fn put_places(out: &mut [u8], at: usize, mapping: Mapping) -> usize
 // A strand.
 pub fn put_strand(out: &mut [u8], at: usize, strand: u64) -> usize
     requires { ⌜ at + 1 ≤ length (now out) ⌝ }
-    ensures { λ r. ⌜ Adds (strandWord strand) (old out) at (new out) r ⌝ }
+    ensures { λ r. ⌜ AddsAtMost 1 (strandWord strand) (old out) at (new out) r ⌝ }
 {
     if strand == 0 {
         return put_bytes(out, at, b"+");
@@ -55,7 +54,7 @@ pub fn put_strand(out: &mut [u8], at: usize, strand: u64) -> usize
 // A status.
 pub fn put_status(out: &mut [u8], at: usize, status: Status) -> usize
     requires { ⌜ at + 41 ≤ length (now out) ⌝ }
-    ensures { λ r. ⌜ Adds (text (statusWord status)) (old out) at (new out) r ⌝ }
+    ensures { λ r. ⌜ AddsAtMost 41 (text (statusWord status)) (old out) at (new out) r ⌝ }
 {
     match status {
         Status::Complete => put_bytes(out, at, b"placement_enumeration_complete"),
@@ -70,7 +69,7 @@ pub fn put_status(out: &mut [u8], at: usize, status: Status) -> usize
 // Three totals, each behind a space.
 pub fn put_totals(out: &mut [u8], at: usize, totals: Availability) -> usize
     requires { ⌜ at + 63 ≤ length (now out) ⌝ }
-    ensures { λ r. ⌜ Adds (spaced (totalWords totals)) (old out) at (new out) r ⌝ }
+    ensures { λ r. ⌜ AddsAtMost 63 (spaced (totalWords totals)) (old out) at (new out) r ⌝ }
 {
     match totals {
         Availability::Unavailable => put_bytes(out, at, b" - - -"),

@@ -2,8 +2,8 @@
 ghost use Prim.Native.Nat.{_+_, _≤_};
 ghost use lib.ListN.{length};
 ghost use Rattle.promises.specs.Slice.{old, new};
-ghost use Rattle.lines.specs.Text.{decimal};
-ghost use Rattle.lines.specs.Writing.{Adds};
+ghost use Rattle.texts.specs.Text.{decimal};
+ghost use Rattle.texts.specs.Writing.{Adds};
 
 // Writes bytes.
 pub fn put_bytes(out: &mut [u8], at: usize, bytes: &[u8]) -> usize
