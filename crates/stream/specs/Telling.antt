@@ -7,7 +7,7 @@ use Rattle.lists.specs.Cut.{window}
 use Rattle.catalogue.specs.Catalogue.{Catalogue}
 use Rattle.audit_rules.specs.declared.settings.Settings.{Settings}
 use Rattle.audit_rules.specs.Observing.{MateRead}
-use Rattle.audit_rules.specs.Calls.{mateOf, fragmentOf}
+use Rattle.audit_rules.specs.Calls.{mateOf, lentReads, fragmentOf}
 use Rattle.stream.specs.declared.SettingsRead.{SettingsRead}
 use Rattle.stream.specs.declared.SettingsRead.the-variants as settings
 use Rattle.stream.specs.declared.TargetRead.{TargetRead}
@@ -20,7 +20,7 @@ use Rattle.stream.specs.declared.reads.FragmentHead.{FragmentHead}
 use Rattle.stream.specs.declared.reads.FragmentRead.{FragmentRead}
 use Rattle.stream.specs.declared.reads.FragmentRead.the-variants as fragments
 use Rattle.stream.specs.Operands.{Parsed, parsed, wrong}
-use Rattle.stream.specs.Commands.{settingsIn, withTarget, targetIn, readIn, fragmentIn}
+use Rattle.stream.specs.Commands.{settingsIn, withTarget, targetIn, readIn, readsIn, fragmentIn}
 
 -- ---- three ways to be told
 
@@ -82,6 +82,38 @@ abbrev pub ReadTold : List ℕ → ℕ → ReadFound → Type 0
 ReadTold bytes at (reads.Found p) = Placed bytes p × ((more : List ℕ) → readIn (drop at bytes ++ more) ≡ parsed (mateAt bytes p) (drop (p .end) bytes ++ more))
 ReadTold bytes at reads.Wrong = Refused readIn (drop at bytes)
 ReadTold bytes at reads.More = Short readIn (drop at bytes) longestRead
+
+-- a second read behind the first
+pub record PairFound (bytes : List ℕ) (number : ℕ) (before : ReadPlace) (h : FragmentHead) : Type 0 where
+  pub ordinal : h .ordinal ≡ number
+  pub count : h .count ≡ 2
+  pub first : h .first ≡ before
+  pub placed : Placed bytes (h .second)
+  pub end : h .end ≡ h .second .end
+  pub told : (more : List ℕ) → readIn (drop (before .end) bytes ++ more) ≡ parsed (mateAt bytes (h .second)) (drop (h .second .end) bytes ++ more)
+
+abbrev pub PairTold : List ℕ → ℕ → ReadPlace → FragmentRead → Type 0
+PairTold bytes ordinal first (fragments.Read h) = PairFound bytes ordinal first h
+PairTold bytes ordinal first fragments.Wrong = Refused readIn (drop (first .end) bytes)
+PairTold bytes ordinal first fragments.More = Short readIn (drop (first .end) bytes) longestRead
+
+-- one read or two behind nine bytes
+pub record ReadsFound (bytes : List ℕ) (number reads : ℕ) (h : FragmentHead) : Type 0 where
+  pub ordinal : h .ordinal ≡ number
+  pub count : h .count ≡ reads
+  pub first : Placed bytes (h .first)
+  pub second : Placed bytes (h .second)
+  pub within : h .end ≤ length bytes
+  pub told : (more : List ℕ) → readsIn reads (drop 9 bytes ++ more) ≡ parsed (lentReads reads (mateAt bytes (h .first)) (mateAt bytes (h .second))) (drop (h .end) bytes ++ more)
+
+-- the longest two
+abbrev pub longestReads : ℕ
+longestReads = 16398
+
+abbrev pub ReadsTold : List ℕ → ℕ → ℕ → FragmentRead → Type 0
+ReadsTold bytes ordinal count (fragments.Read h) = ReadsFound bytes ordinal count h
+ReadsTold bytes ordinal count fragments.Wrong = Refused (readsIn count) (drop 9 bytes)
+ReadsTold bytes ordinal count fragments.More = Short (readsIn count) (drop 9 bytes) longestReads
 
 -- the longest: nine bytes and two reads
 abbrev pub longestFragment : ℕ

@@ -6,7 +6,7 @@ ghost use Rattle.lists.specs.Filter.{every};
 ghost use Rattle.promises.specs.Slice.{old};
 ghost use Rattle.catalogue.specs.Catalogue.{Catalogue};
 ghost use Rattle.stream.specs.Operands.{littleEndian};
-ghost use Rattle.stream.specs.Commands.{isNameByte, targetFits};
+ghost use Rattle.stream.specs.Commands.{modeOf, isNameByte, targetFits};
 ghost use Rattle.stream.specs.Telling.{SettingsTold, TargetsTold};
 use audit_rules::settings::AuditInputMode;
 use audit_rules::settings::Settings;
@@ -46,6 +46,15 @@ pub fn little_endian(bytes: &[u8]) -> u64
     number
 }
 
+fn mode_of(number: u8) -> AuditInputMode
+    ensures { λ r. ⌜ r ≡ modeOf number ⌝ }
+{
+    if number == 0 {
+        return AuditInputMode::SingleEnd;
+    }
+    AuditInputMode::PairedEnd
+}
+
 // Settings, behind 01.
 pub fn read_settings(bytes: &[u8]) -> SettingsRead
     ensures { λ r. ⌜ SettingsTold (old bytes) r ⌝ }
@@ -55,16 +64,14 @@ pub fn read_settings(bytes: &[u8]) -> SettingsRead
     }
     let mode = bytes[0];
     let remap = bytes[1];
-    if 1 < mode || 1 < remap {
+    if 1 < mode {
         return SettingsRead::Wrong;
     }
-    let layout = if mode == 0 {
-        AuditInputMode::SingleEnd
-    } else {
-        AuditInputMode::PairedEnd
-    };
+    if 1 < remap {
+        return SettingsRead::Wrong;
+    }
     SettingsRead::Read(Settings {
-        mode: layout,
+        mode: mode_of(mode),
         remap: remap == 1,
         floor: bytes[2],
         limit: little_endian(&bytes[3..11]),
@@ -79,7 +86,10 @@ fn is_name(bytes: &[u8]) -> bool
     let mut i: usize = 0;
     while i < n {
         let byte = bytes[i];
-        if byte < 33 || 126 < byte {
+        if byte < 33 {
+            return false;
+        }
+        if 126 < byte {
             return false;
         }
         i += 1;

@@ -1,0 +1,46 @@
+use borrow.Author.Needs.{needs}
+use Rattle.stream.proofs.reads.read_pair.Statement.{statement}
+use Rattle.stream.proofs.reads.read_pair.Tie as tie
+use Rattle.stream.proofs.reads.read_pair.Reads as reads
+use Rattle.stream.proofs.reads.read_pair.Lts as lts
+use Rattle.stream.proofs.reads.read_read.Reads as read-read-reads
+
+-- src/reads.rt:117:11
+read-read-requires : tie.Need-read-read-requires
+read-read-requires c κs = search needs
+
+-- src/reads.rt:118:26
+enum-known-second : tie.Need-enum-known-second
+enum-known-second c = search needs
+
+-- src/reads.rt:128:29
+enum-told : tie.Need-enum-told
+enum-told c = search needs
+
+-- src/reads.rt:129:28
+enum-told-2 : tie.Need-enum-told-2
+enum-told-2 c = search needs
+
+-- src/reads.rt:112:1
+returns : tie.Need-returns
+returns c = ?
+
+-- src/reads.rt:112:1
+returns-2 : tie.Need-returns-2
+returns-2 c = ?
+
+-- src/reads.rt:112:1
+returns-3 : tie.Need-returns-3
+returns-3 c = ?
+
+pub read-pair-spec : {M : Type 1} → statement M
+read-pair-spec =
+    tie.close
+    (tie.spec
+    read-read-requires
+    enum-known-second
+    enum-told
+    enum-told-2
+    returns
+    returns-2
+    returns-3)

@@ -1,0 +1,154 @@
+use borrow.Author.Needs.{needs}
+use Rattle.stream.proofs.reads.read_read.Statement.{statement}
+use Rattle.stream.proofs.reads.read_read.Tie as tie
+use Rattle.stream.proofs.reads.read_read.Reads as reads
+use Rattle.stream.proofs.reads.read_read.Lts as lts
+use Rattle.stream.proofs.little_endian.Reads as little-endian-reads
+use Rattle.stream.proofs.reads.quality_count.Reads as quality-count-reads
+use Rattle.stream.proofs.reads.read_fits.Reads as read-fits-reads
+use Rattle.stream.proofs.reads.role_of.Reads as role-of-reads
+
+-- src/reads.rt:81:16
+sub-left : tie.Need-sub-left
+sub-left c = search needs
+
+-- src/reads.rt:83:9
+returns : tie.Need-returns
+returns c = ?
+
+-- src/reads.rt:85:8
+shared-slice-read-if2 : tie.Need-shared-slice-read-if2
+shared-slice-read-if2 c = search needs
+
+-- src/reads.rt:86:9
+returns-2 : tie.Need-returns-2
+returns-2 c = ?
+
+-- src/reads.rt:89:9
+returns-3 : tie.Need-returns-3
+returns-3 c = ?
+
+-- src/reads.rt:91:22
+add-role : tie.Need-add-role
+add-role c = search needs
+
+-- src/reads.rt:91:16
+shared-slice-read-role : tie.Need-shared-slice-read-role
+shared-slice-read-role c = search needs
+
+-- src/reads.rt:92:22
+add-mark : tie.Need-add-mark
+add-mark c = search needs
+
+-- src/reads.rt:92:16
+shared-slice-read-mark : tie.Need-shared-slice-read-mark
+shared-slice-read-mark c = search needs
+
+-- src/reads.rt:93:39
+add-little-endian : tie.Need-add-little-endian
+add-little-endian c = search needs
+
+-- src/reads.rt:93:47
+add-little-endian-2 : tie.Need-add-little-endian-2
+add-little-endian-2 c = search needs
+
+-- src/reads.rt:93:32
+sub-little-endian : tie.Need-sub-little-endian
+sub-little-endian c = search needs
+
+-- src/reads.rt:93:32
+part-little-endian-start : tie.Need-part-little-endian-start
+part-little-endian-start c = search needs
+
+-- src/reads.rt:93:32
+part-little-endian-end : tie.Need-part-little-endian-end
+part-little-endian-end c = search needs
+
+-- src/reads.rt:93:9
+little-endian-requires : tie.Need-little-endian-requires
+little-endian-requires c κs = search needs
+
+-- src/reads.rt:94:9
+read-fits-requires : tie.Need-read-fits-requires
+read-fits-requires c κs = search needs
+
+-- src/reads.rt:95:9
+returns-4 : tie.Need-returns-4
+returns-4 c = ?
+
+-- src/reads.rt:98:9
+quality-count-requires : tie.Need-quality-count-requires
+quality-count-requires c κs = search needs
+
+-- src/reads.rt:99:19
+add-if5 : tie.Need-add-if5
+add-if5 c = ?
+
+-- src/reads.rt:100:9
+returns-5 : tie.Need-returns-5
+returns-5 c = ?
+
+-- src/reads.rt:103:15
+role-of-requires : tie.Need-role-of-requires
+role-of-requires c κs = search needs
+
+-- src/reads.rt:105:15
+add-t15 : tie.Need-add-t15
+add-t15 c = search needs
+
+-- src/reads.rt:106:17
+add-t9 : tie.Need-add-t9
+add-t9 c = search needs
+
+-- src/reads.rt:106:17
+add-t17 : tie.Need-add-t17
+add-t17 c = search needs
+
+-- src/reads.rt:107:14
+add-t22 : tie.Need-add-t22
+add-t22 c = search needs
+
+-- src/reads.rt:107:14
+add-t23 : tie.Need-add-t23
+add-t23 c = search needs
+
+-- src/reads.rt:107:14
+add-t24 : tie.Need-add-t24
+add-t24 c = search needs
+
+-- src/reads.rt:77:1
+returns-6 : tie.Need-returns-6
+returns-6 c = ?
+
+pub read-read-spec : {M : Type 1} → statement M
+read-read-spec =
+    tie.close
+    (tie.spec
+    sub-left
+    returns
+    shared-slice-read-if2
+    returns-2
+    returns-3
+    add-role
+    shared-slice-read-role
+    add-mark
+    shared-slice-read-mark
+    add-little-endian
+    add-little-endian-2
+    sub-little-endian
+    part-little-endian-start
+    part-little-endian-end
+    little-endian-requires
+    read-fits-requires
+    returns-4
+    quality-count-requires
+    add-if5
+    returns-5
+    role-of-requires
+    add-t15
+    add-t9
+    add-t17
+    add-t22
+    add-t23
+    add-t24
+    returns-6)
