@@ -1,3 +1,7 @@
+use mathlib.Core.Path.{refl}
+use native.Mathlib.Omega.{arith}
+use lib.ListN.{getD}
+use Rattle.stream.proofs.Settings.{settings-short, no-mode, no-remap, settings-read}
 use borrow.Author.Needs.{needs}
 use Rattle.stream.proofs.read_settings.Statement.{statement}
 use Rattle.stream.proofs.read_settings.Tie as tie
@@ -8,7 +12,7 @@ use Rattle.stream.proofs.mode_of.Reads as mode-of-reads
 
 -- src/lib.rt:63:9
 returns : tie.Need-returns
-returns c = ?
+returns c = settings-short _ (omega arith)
 
 -- src/lib.rt:65:16
 shared-slice-read-mode : tie.Need-shared-slice-read-mode
@@ -20,11 +24,11 @@ shared-slice-read-remap c = search needs
 
 -- src/lib.rt:68:9
 returns-2 : tie.Need-returns-2
-returns-2 c = ?
+returns-2 c = no-mode (c .before .before .before .before .before .args .bytes .now) (omega arith) (omega arith)
 
 -- src/lib.rt:71:9
 returns-3 : tie.Need-returns-3
-returns-3 c = ?
+returns-3 c = no-remap (c .before .before .before .before .before .before .args .bytes .now) (omega arith) (omega arith) (omega arith)
 
 -- src/lib.rt:74:15
 mode-of-requires : tie.Need-mode-of-requires
@@ -52,7 +56,9 @@ little-endian-requires c κs = search needs
 
 -- src/lib.rt:59:1
 returns-4 : tie.Need-returns-4
-returns-4 c = ?
+returns-4 c = 
+    let b = c .before .before .before .before .before .before .before .before .before .before .args .bytes .now in
+    settings-read b (omega arith) (omega arith) _ (getD b 1 0) _ _ (c .before .before .before .mode-of .ensures) (omega arith) (omega arith) (c .little-endian .ensures) (omega arith)
 
 pub read-settings-spec : {M : Type 1} → statement M
 read-settings-spec =
