@@ -4,3 +4,4 @@ pub mod Names
 pub mod Pieces
 pub mod Settings
 pub mod Targets
+pub mod Mates

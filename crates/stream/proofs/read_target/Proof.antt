@@ -69,7 +69,7 @@ returns-2 : tie.Need-returns-2
 returns-2 c = 
     λ k m h.
     let a = c .before .before .before .before .before .before .before .before .args in
-    target-refused k (a .bytes .now) _ _ _ (a .targets) (a .held) m h (omega arith) (omega arith) (omega arith) (c .before .before .little-endian .ensures) (sym (c .before .target-fits .ensures) ∙ not-true _ (c .if2 .taken))
+    target-refused k (a .bytes .now) _ _ _ (a .targets) (a .held) m h (omega arith) refl refl (c .before .before .little-endian .ensures) (sym (c .before .target-fits .ensures) ∙ not-true _ (c .if2 .taken))
 
 -- src/lib.rt:132:8
 sub-if3 : tie.Need-sub-if3
@@ -84,7 +84,7 @@ returns-3 : tie.Need-returns-3
 returns-3 c = 
     λ k m h.
     let a = c .before .before .before .before .before .before .before .before .before .args in
-    target-short k (a .bytes .now) _ _ (number (c .before)) (a .targets) (a .held) m h (omega arith) (omega arith) (omega arith) (c .before .before .before .little-endian .ensures) (omega arith) (omega (arith, few (c .before)))
+    target-short k (a .bytes .now) _ _ (number (c .before)) (a .targets) (a .held) m h (omega arith) refl refl (c .before .before .before .little-endian .ensures) (omega arith) (omega (arith, few (c .before)))
 
 -- src/lib.rt:135:27
 add-is-name : tie.Need-add-is-name
@@ -111,7 +111,7 @@ returns-4 : tie.Need-returns-4
 returns-4 c = 
     λ k m h.
     let a = c .before .before .before .before .before .before .before .before .before .before .before .before .args in
-    target-misnamed k (a .bytes .now) _ _ (number (c .before .before .before .before)) (a .targets) (a .held) m h (omega arith) (omega arith) (omega arith) (c .before .before .before .before .before .before .little-endian .ensures) (omega arith) (fits (c .before .before .before .before)) (6 + getD (a .bytes .now) 1 0 - 6) (omega arith) (sym (c .before .is-name .ensures) ∙ not-true _ (c .if4 .taken))
+    target-misnamed k (a .bytes .now) _ _ (number (c .before .before .before .before)) (a .targets) (a .held) m h (omega arith) refl refl (c .before .before .before .before .before .before .little-endian .ensures) (omega arith) (fits (c .before .before .before .before)) (6 + getD (a .bytes .now) 1 0 - 6) (omega arith) (sym (c .before .is-name .ensures) ∙ not-true _ (c .if4 .taken))
 
 -- src/lib.rt:118:1
 returns-5 : tie.Need-returns-5

@@ -1,3 +1,11 @@
+use mathlib.Core.Path.{_≡_, refl, sym, ap, _∙_}
+use mathlib.Core.Bool.{true}
+use Prim.Native.Nat.{ℕ, _+_, _-_, _≤_}
+use native.Mathlib.Omega.{arith}
+use lib.ListN.{getD}
+use borrow.Author.Tests.{not-true, not-false}
+use Rattle.stream.specs.Commands.{readFits, qualitiesOf}
+use Rattle.stream.proofs.Mates.{read-most, qualities-most, read-none, no-read, read-headless, read-refused, read-short, read-found}
 use borrow.Author.Needs.{needs}
 use Rattle.stream.proofs.reads.read_read.Statement.{statement}
 use Rattle.stream.proofs.reads.read_read.Tie as tie
@@ -8,13 +16,27 @@ use Rattle.stream.proofs.reads.quality_count.Reads as quality-count-rea
 use Rattle.stream.proofs.reads.read_fits.Reads as read-fits-reads
 use Rattle.stream.proofs.reads.role_of.Reads as role-of-reads
 
+-- the head's number of bases, and that the head fits
+abbrev number : tie.Else4 → ℕ
+number c = c .before .before .little-endian .result
+
+fits : (c : tie.Else4) → let a = c .before .before .before .before .before .before .before .before .before .before .before .args in readFits (getD (a .bytes .now) (a .at + 1) 0) (getD (a .bytes .now) (a .at + 2) 0) (number c) ≡ true
+fits c = sym (c .before .read-fits .ensures) ∙ not-false _ (c .if4 .left)
+
+few : (c : tie.After-quality-count) → (number (c .before) ≤ 4096) × (c .quality-count .result ≤ number (c .before))
+few c =
+    let a = c .before .before .before .before .before .before .before .before .before .before .before .before .args in
+    let m = read-most (getD (a .bytes .now) (a .at + 1) 0) (getD (a .bytes .now) (a .at + 2) 0) (number (c .before)) (fits (c .before)) in
+    let q = qualities-most (getD (a .bytes .now) (a .at + 2) 0) (number (c .before)) in
+    omega (arith, c .quality-count .ensures)
+
 -- src/reads.rt:81:16
 sub-left : tie.Need-sub-left
 sub-left c = search needs
 
 -- src/reads.rt:83:9
 returns : tie.Need-returns
-returns c = ?
+returns c = let a = c .before .before .args in read-none (a .bytes .now) (a .at) (omega arith)
 
 -- src/reads.rt:85:8
 shared-slice-read-if2 : tie.Need-shared-slice-read-if2
@@ -22,11 +44,11 @@ shared-slice-read-if2 c = search needs
 
 -- src/reads.rt:86:9
 returns-2 : tie.Need-returns-2
-returns-2 c = ?
+returns-2 c = let a = c .before .before .before .before .args in no-read (a .bytes .now) (a .at) (omega arith) (λ e. omega arith)
 
 -- src/reads.rt:89:9
 returns-3 : tie.Need-returns-3
-returns-3 c = ?
+returns-3 c = let a = c .before .before .before .before .before .args in read-headless (a .bytes .now) (a .at) (omega arith) (omega arith) (omega arith)
 
 -- src/reads.rt:91:22
 add-role : tie.Need-add-role
@@ -74,7 +96,9 @@ read-fits-requires c κs = search needs
 
 -- src/reads.rt:95:9
 returns-4 : tie.Need-returns-4
-returns-4 c = ?
+returns-4 c = 
+    let a = c .before .before .before .before .before .before .before .before .before .before .before .args in
+    read-refused (a .bytes .now) (a .at) _ _ (c .before .before .little-endian .result) (a .at + 7 - (a .at + 3)) (omega arith) (omega arith) refl refl (c .before .before .little-endian .ensures) (omega arith) (sym (c .before .read-fits .ensures) ∙ not-true _ (c .if4 .taken))
 
 -- src/reads.rt:98:9
 quality-count-requires : tie.Need-quality-count-requires
@@ -82,11 +106,13 @@ quality-count-requires c κs = search needs
 
 -- src/reads.rt:99:19
 add-if5 : tie.Need-add-if5
-add-if5 c = ?
+add-if5 c = omega (arith, few c)
 
 -- src/reads.rt:100:9
 returns-5 : tie.Need-returns-5
-returns-5 c = ?
+returns-5 c = 
+    let a = c .before .before .before .before .before .before .before .before .before .before .before .before .before .args in
+    read-short (a .bytes .now) (a .at) _ _ (number (c .before .before)) (a .at + 7 - (a .at + 3)) (omega arith) (omega arith) refl refl (c .before .before .before .before .little-endian .ensures) (omega arith) (fits (c .before .before)) _ (c .before .quality-count .ensures) (omega (arith, few (c .before)))
 
 -- src/reads.rt:103:15
 role-of-requires : tie.Need-role-of-requires
@@ -118,7 +144,9 @@ add-t24 c = search needs
 
 -- src/reads.rt:77:1
 returns-6 : tie.Need-returns-6
-returns-6 c = ?
+returns-6 c = 
+    let a = c .before .before .before .before .before .before .before .before .before .before .before .before .before .before .args in
+    read-found (a .bytes .now) (a .at) (getD (a .bytes .now) (a .at + 1) 0) (getD (a .bytes .now) (a .at + 2) 0) (number (c .before .before .before)) (a .at + 7 - (a .at + 3)) (omega arith) (omega arith) refl refl (c .before .before .before .before .before .little-endian .ensures) (omega arith) (fits (c .before .before .before)) _ (c .before .before .quality-count .ensures) _ (omega (arith, few (c .before .before))) (omega arith) (omega arith) (omega arith) (c .role-of .ensures) refl
 
 pub read-read-spec : {M : Type 1} → statement M
 read-read-spec =
