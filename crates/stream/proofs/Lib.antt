@@ -5,3 +5,4 @@ pub mod Pieces
 pub mod Settings
 pub mod Targets
 pub mod Mates
+pub mod Fragments

@@ -1,3 +1,5 @@
+use mathlib.Core.Path.{refl}
+use Rattle.stream.proofs.Fragments.{told-as}
 use borrow.Author.Needs.{needs}
 use Rattle.stream.proofs.reads.read_pair.Statement.{statement}
 use Rattle.stream.proofs.reads.read_pair.Tie as tie
@@ -23,15 +25,18 @@ enum-told-2 c = search needs
 
 -- src/reads.rt:112:1
 returns : tie.Need-returns
-returns c = ?
+returns c = 
+    let a = c .before .before .before .before .before .args in
+    let t = told-as (a .bytes .now) (a .first .end) (c .before .second .given .1) (c .before .before .before .read-read .ensures) in
+    record { ordinal = refl; count = refl; first = refl; placed = t .0; end = refl; told = t .1 }
 
 -- src/reads.rt:112:1
 returns-2 : tie.Need-returns-2
-returns-2 c = ?
+returns-2 c = let a = c .before .before .before .before .args in told-as (a .bytes .now) (a .first .end) (c .enum-told .given .1) (c .before .before .read-read .ensures)
 
 -- src/reads.rt:112:1
 returns-3 : tie.Need-returns-3
-returns-3 c = ?
+returns-3 c = let a = c .before .before .before .before .args in told-as (a .bytes .now) (a .first .end) (c .enum-told2 .given .1) (c .before .before .read-read .ensures)
 
 pub read-pair-spec : {M : Type 1} → statement M
 read-pair-spec =

@@ -1,3 +1,5 @@
+use native.Mathlib.Omega.{arith}
+use Rattle.stream.proofs.Fragments.{told-as, reads-refused, reads-short, first-within, one-found, pair-told}
 use borrow.Author.Needs.{needs}
 use Rattle.stream.proofs.reads.read_reads.Statement.{statement}
 use Rattle.stream.proofs.reads.read_reads.Tie as tie
@@ -16,11 +18,11 @@ enum-known-first c = search needs
 
 -- src/reads.rt:141:17
 read-pair-requires : tie.Need-read-pair-requires
-read-pair-requires c κs = ?
+read-pair-requires c κs = let a = c .before .before .before .before .before .before .args in first-within (a .bytes .now) (a .ordinal) _ (told-as (a .bytes .now) 9 (c .before .before .first .given .1) (c .before .before .before .before .read-read .ensures))
 
 -- src/reads.rt:141:17
 returns : tie.Need-returns
-returns c = ?
+returns c = let a = c .before .before .before .before .before .before .before .args in pair-told (a .bytes .now) (a .ordinal) _ (told-as (a .bytes .now) 9 (c .before .before .before .first .given .1) (c .before .before .before .before .before .read-read .ensures)) (a .count) (omega arith) (c .read-pair .result) (c .read-pair .ensures)
 
 -- src/reads.rt:152:29
 enum-told : tie.Need-enum-told
@@ -32,15 +34,15 @@ enum-told-2 c = search needs
 
 -- src/reads.rt:134:1
 returns-2 : tie.Need-returns-2
-returns-2 c = ?
+returns-2 c = let a = c .before .before .before .before .before .before .args in one-found (a .bytes .now) (a .ordinal) _ (told-as (a .bytes .now) 9 (c .before .before .first .given .1) (c .before .before .before .before .read-read .ensures)) (a .count) (omega arith)
 
 -- src/reads.rt:134:1
 returns-3 : tie.Need-returns-3
-returns-3 c = ?
+returns-3 c = let a = c .before .before .before .before .args in reads-refused (a .bytes .now) (a .count) (omega arith) (told-as (a .bytes .now) 9 (c .enum-told .given .1) (c .before .before .read-read .ensures))
 
 -- src/reads.rt:134:1
 returns-4 : tie.Need-returns-4
-returns-4 c = ?
+returns-4 c = let a = c .before .before .before .before .args in reads-short (a .bytes .now) (a .count) (omega arith) (told-as (a .bytes .now) 9 (c .enum-told2 .given .1) (c .before .before .read-read .ensures))
 
 pub read-reads-spec : {M : Type 1} → statement M
 read-reads-spec =
