@@ -4,5 +4,3 @@ pub mod Names
 pub mod Pieces
 pub mod Settings
 pub mod Targets
-pub mod Mates
-pub mod Fragments

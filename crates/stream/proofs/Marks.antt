@@ -1,4 +1,4 @@
--- Marks and roles by their numbers, and tests that pass together.
+-- A mode by its number, and tests that pass together.
 -- Assumes nothing.
 use mathlib.Core.Path.{_≡_, refl}
 use Prim.Native.Nat.{ℕ, zero, suc, _≤_}
@@ -6,17 +6,11 @@ use lib.Dec.{leb}
 use borrow.Author.Tests.{leb-true, le-leb}
 use Rattle.lists.proofs.Cases.{same-test}
 use Rattle.audit_rules.specs.declared.settings.AuditInputMode.the-variants as modes
-use Rattle.audit_rules.specs.declared.settings.MateRole.the-variants as roles
-use Rattle.stream.specs.Commands.{modeOf, roleOf}
+use Rattle.stream.specs.Commands.{modeOf}
 
 pub paired : (n : ℕ) → (n ≡ 0 → ⊥) → modes.PairedEnd ≡ modeOf n
 paired zero h = absurd (h refl)
 paired (suc n) h = refl
-
-pub second : (n : ℕ) → (n ≡ 0 → ⊥) → (n ≡ 1 → ⊥) → roles.R2 ≡ roleOf n
-second zero h k = absurd (h refl)
-second (suc zero) h k = absurd (k refl)
-second (suc (suc n)) h k = refl
 
 -- two bounds of which each gives the other
 pub same-bound : (a b c d : ℕ) → (a ≤ b → c ≤ d) → (c ≤ d → a ≤ b) → leb a b ≡ leb c d

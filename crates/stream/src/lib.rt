@@ -1,4 +1,4 @@
-// The commands of `catch` read from the bytes that are there: read, wrong, or more bytes are needed.
+// Settings and targets of `catch` read from the bytes that are there: read, wrong, or more bytes are needed.
 ghost use mathlib.Core.Path.{_≡_};
 ghost use Prim.Native.Nat.{_≤_};
 ghost use lib.ListN.{length};
@@ -10,8 +10,6 @@ ghost use Rattle.stream.specs.Commands.{modeOf, isNameByte, targetFits};
 ghost use Rattle.stream.specs.Telling.{SettingsTold, TargetsTold};
 use audit_rules::settings::AuditInputMode;
 use audit_rules::settings::Settings;
-
-pub mod reads;
 
 pub enum SettingsRead {
     Read(Settings),

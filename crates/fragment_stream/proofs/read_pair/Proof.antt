@@ -1,11 +1,11 @@
 use mathlib.Core.Path.{refl}
-use Rattle.stream.proofs.Fragments.{told-as}
+use Rattle.fragment_stream.proofs.Fragments.{told-as}
 use borrow.Author.Needs.{needs}
-use Rattle.stream.proofs.reads.read_pair.Statement.{statement}
-use Rattle.stream.proofs.reads.read_pair.Tie as tie
-use Rattle.stream.proofs.reads.read_pair.Reads as reads
-use Rattle.stream.proofs.reads.read_pair.Lts as lts
-use Rattle.stream.proofs.reads.read_read.Reads as read-read-reads
+use Rattle.fragment_stream.proofs.read_pair.Statement.{statement}
+use Rattle.fragment_stream.proofs.read_pair.Tie as tie
+use Rattle.fragment_stream.proofs.read_pair.Reads as reads
+use Rattle.fragment_stream.proofs.read_pair.Lts as lts
+use Rattle.fragment_stream.proofs.read_read.Reads as read-read-reads
 
 -- src/reads.rt:117:11
 read-read-requires : tie.Need-read-read-requires

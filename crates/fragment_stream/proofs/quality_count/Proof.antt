@@ -1,8 +1,8 @@
 use borrow.Author.Tests.{eq-eqb, ne-eqb}
-use Rattle.stream.proofs.reads.quality_count.Statement.{statement}
-use Rattle.stream.proofs.reads.quality_count.Tie as tie
-use Rattle.stream.proofs.reads.quality_count.Reads as reads
-use Rattle.stream.proofs.reads.quality_count.Lts as lts
+use Rattle.fragment_stream.proofs.quality_count.Statement.{statement}
+use Rattle.fragment_stream.proofs.quality_count.Tie as tie
+use Rattle.fragment_stream.proofs.quality_count.Reads as reads
+use Rattle.fragment_stream.proofs.quality_count.Lts as lts
 
 -- src/reads.rt:71:9
 returns : tie.Need-returns

@@ -1,9 +1,9 @@
 use native.Mathlib.Omega.{arith}
 use borrow.Author.Tests.{le-leb, lt-leb}
-use Rattle.stream.proofs.reads.read_fits.Statement.{statement}
-use Rattle.stream.proofs.reads.read_fits.Tie as tie
-use Rattle.stream.proofs.reads.read_fits.Reads as reads
-use Rattle.stream.proofs.reads.read_fits.Lts as lts
+use Rattle.fragment_stream.proofs.read_fits.Statement.{statement}
+use Rattle.fragment_stream.proofs.read_fits.Tie as tie
+use Rattle.fragment_stream.proofs.read_fits.Reads as reads
+use Rattle.fragment_stream.proofs.read_fits.Lts as lts
 
 -- src/reads.rt:58:9
 returns : tie.Need-returns

@@ -1,12 +1,12 @@
 use native.Mathlib.Omega.{arith}
-use Rattle.stream.proofs.Fragments.{told-as, reads-refused, reads-short, first-within, one-found, pair-told}
+use Rattle.fragment_stream.proofs.Fragments.{told-as, reads-refused, reads-short, first-within, one-found, pair-told}
 use borrow.Author.Needs.{needs}
-use Rattle.stream.proofs.reads.read_reads.Statement.{statement}
-use Rattle.stream.proofs.reads.read_reads.Tie as tie
-use Rattle.stream.proofs.reads.read_reads.Reads as reads
-use Rattle.stream.proofs.reads.read_reads.Lts as lts
-use Rattle.stream.proofs.reads.read_pair.Reads as read-pair-reads
-use Rattle.stream.proofs.reads.read_read.Reads as read-read-reads
+use Rattle.fragment_stream.proofs.read_reads.Statement.{statement}
+use Rattle.fragment_stream.proofs.read_reads.Tie as tie
+use Rattle.fragment_stream.proofs.read_reads.Reads as reads
+use Rattle.fragment_stream.proofs.read_reads.Lts as lts
+use Rattle.fragment_stream.proofs.read_pair.Reads as read-pair-reads
+use Rattle.fragment_stream.proofs.read_read.Reads as read-read-reads
 
 -- src/reads.rt:138:11
 read-read-requires : tie.Need-read-read-requires

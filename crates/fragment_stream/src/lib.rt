@@ -3,9 +3,9 @@ ghost use lib.ListN.{length};
 ghost use Rattle.promises.specs.Slice.{old};
 ghost use mathlib.Core.Path.{_≡_};
 ghost use Prim.Native.Nat.{_≤_};
 ghost use Rattle.stream.specs.Commands.{roleOf, readFits, qualitiesOf};
-ghost use Rattle.stream.specs.Telling.{ReadTold, PairTold, ReadsTold, FragmentTold};
-use crate::little_endian;
+ghost use Rattle.fragment_stream.specs.Telling.{ReadTold, PairTold, ReadsTold, FragmentTold};
+use stream::little_endian;
 use audit_rules::settings::MateRole;
 
 // Where a read stands: its bases, and behind them its qualities.

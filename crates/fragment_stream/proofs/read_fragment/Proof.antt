@@ -1,14 +1,13 @@
 use mathlib.Core.Path.{refl}
 use native.Mathlib.Omega.{arith}
 use lib.ListN.{getD}
-use Rattle.stream.proofs.Fragments.{fragment-headless, fragment-refused, fragment-none, fragment-told}
+use Rattle.fragment_stream.proofs.Fragments.{fragment-headless, fragment-refused, fragment-none, fragment-told}
 use borrow.Author.Needs.{needs}
-use Rattle.stream.proofs.reads.read_fragment.Statement.{statement}
-use Rattle.stream.proofs.reads.read_fragment.Tie as tie
-use Rattle.stream.proofs.reads.read_fragment.Reads as reads
-use Rattle.stream.proofs.reads.read_fragment.Lts as lts
-use Rattle.stream.proofs.little_endian.Reads as little-endian-reads
-use Rattle.stream.proofs.reads.read_reads.Reads as read-reads-reads
+use Rattle.fragment_stream.proofs.read_fragment.Statement.{statement}
+use Rattle.fragment_stream.proofs.read_fragment.Tie as tie
+use Rattle.fragment_stream.proofs.read_fragment.Reads as reads
+use Rattle.fragment_stream.proofs.read_fragment.Lts as lts
+use Rattle.fragment_stream.proofs.read_reads.Reads as read-reads-reads
 
 -- src/reads.rt:162:9
 returns : tie.Need-returns

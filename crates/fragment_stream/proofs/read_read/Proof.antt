@@ -4,17 +4,16 @@ use Prim.Native.Nat.{ℕ, _+_, _-_, _≤_}
 use native.Mathlib.Omega.{arith}
 use lib.ListN.{getD}
 use borrow.Author.Tests.{not-true, not-false}
 use Rattle.stream.specs.Commands.{readFits, qualitiesOf}
-use Rattle.stream.proofs.Mates.{read-most, qualities-most, read-none, no-read, read-headless, read-refused, read-short, read-found}
+use Rattle.fragment_stream.proofs.Mates.{read-most, qualities-most, read-none, no-read, read-headless, read-refused, read-short, read-found}
 use borrow.Author.Needs.{needs}
-use Rattle.stream.proofs.reads.read_read.Statement.{statement}
-use Rattle.stream.proofs.reads.read_read.Tie as tie
-use Rattle.stream.proofs.reads.read_read.Reads as reads
-use Rattle.stream.proofs.reads.read_read.Lts as lts
-use Rattle.stream.proofs.little_endian.Reads as little-endian-reads
-use Rattle.stream.proofs.reads.quality_count.Reads as quality-count-reads
-use Rattle.stream.proofs.reads.read_fits.Reads as read-fits-reads
-use Rattle.stream.proofs.reads.role_of.Reads as role-of-reads
+use Rattle.fragment_stream.proofs.read_read.Statement.{statement}
+use Rattle.fragment_stream.proofs.read_read.Tie as tie
+use Rattle.fragment_stream.proofs.read_read.Reads as reads
+use Rattle.fragment_stream.proofs.read_read.Lts as lts
+use Rattle.fragment_stream.proofs.quality_count.Reads as quality-count-reads
+use Rattle.fragment_stream.proofs.read_fits.Reads as read-fits-reads
+use Rattle.fragment_stream.proofs.role_of.Reads as role-of-reads
 
 -- the head's number of bases, and that the head fits
 abbrev number : tie.Else4 → ℕ

@@ -1,9 +1,9 @@
-use Rattle.stream.proofs.Marks.{second}
+use Rattle.fragment_stream.proofs.Mates.{second}
 use borrow.Author.Needs.{needs}
-use Rattle.stream.proofs.reads.role_of.Statement.{statement}
-use Rattle.stream.proofs.reads.role_of.Tie as tie
-use Rattle.stream.proofs.reads.role_of.Reads as reads
-use Rattle.stream.proofs.reads.role_of.Lts as lts
+use Rattle.fragment_stream.proofs.role_of.Statement.{statement}
+use Rattle.fragment_stream.proofs.role_of.Tie as tie
+use Rattle.fragment_stream.proofs.role_of.Reads as reads
+use Rattle.fragment_stream.proofs.role_of.Lts as lts
 
 -- src/reads.rt:45:9
 returns : tie.Need-returns

@@ -12,17 +12,18 @@ use borrow.Author.Tests.{le-leb, lt-leb}
 use Rattle.audit_rules.specs.Observing.{MateRead}
 use Rattle.audit_rules.specs.Fragment.{Fragment}
 use Rattle.audit_rules.specs.Calls.{lentReads, fragmentOf}
-use Rattle.stream.specs.declared.reads.ReadPlace.{ReadPlace}
-use Rattle.stream.specs.declared.reads.ReadFound.{ReadFound}
-use Rattle.stream.specs.declared.reads.ReadFound.the-variants as reads
-use Rattle.stream.specs.declared.reads.FragmentHead.{FragmentHead}
-use Rattle.stream.specs.declared.reads.FragmentRead.{FragmentRead}
-use Rattle.stream.specs.declared.reads.FragmentRead.the-variants as fragments
+use Rattle.fragment_stream.specs.declared.ReadPlace.{ReadPlace}
+use Rattle.fragment_stream.specs.declared.ReadFound.{ReadFound}
+use Rattle.fragment_stream.specs.declared.ReadFound.the-variants as reads
+use Rattle.fragment_stream.specs.declared.FragmentHead.{FragmentHead}
+use Rattle.fragment_stream.specs.declared.FragmentRead.{FragmentRead}
+use Rattle.fragment_stream.specs.declared.FragmentRead.the-variants as fragments
 use Rattle.stream.specs.Operands.{Parsed, parsed, wrong, _followedBy_, bytesIn, littleEndian}
 use Rattle.stream.specs.Commands.{maxStreamReads, readIn, readsIn, fragmentIn}
-use Rattle.stream.specs.Telling.{Read, Refused, Short, mateAt, Placed, longestRead, ReadTold, PairTold, ReadsFound, longestReads, ReadsTold, longestFragment, FragmentTold}
+use Rattle.stream.specs.Telling.{Read, Refused, Short}
+use Rattle.fragment_stream.specs.Telling.{mateAt, Placed, longestRead, ReadTold, PairTold, ReadsFound, longestReads, ReadsTold, longestFragment, FragmentTold}
 use Rattle.stream.proofs.Pieces.{here, bytes-in, bytes-lacking, behind-parsed, behind-wrong}
-use Rattle.stream.proofs.Mates.{read-longest}
+use Rattle.fragment_stream.proofs.Mates.{read-longest}
 
 -- ---- reads
 
