@@ -15,13 +15,12 @@ use Rattle.audit_rules.specs.Calls.{lentReads, fragmentOf}
 use Rattle.fragment_stream.specs.declared.ReadPlace.{ReadPlace}
 use Rattle.fragment_stream.specs.declared.ReadFound.{ReadFound}
 use Rattle.fragment_stream.specs.declared.ReadFound.the-variants as reads
-use Rattle.fragment_stream.specs.declared.FragmentHead.{FragmentHead}
 use Rattle.fragment_stream.specs.declared.FragmentRead.{FragmentRead}
 use Rattle.fragment_stream.specs.declared.FragmentRead.the-variants as fragments
 use Rattle.stream.specs.Operands.{Parsed, parsed, wrong, _followedBy_, bytesIn, littleEndian}
 use Rattle.stream.specs.Commands.{maxStreamReads, readIn, readsIn, fragmentIn}
 use Rattle.stream.specs.Telling.{Read, Refused, Short}
-use Rattle.fragment_stream.specs.Telling.{mateAt, Placed, longestRead, ReadTold, PairTold, ReadsFound, longestReads, ReadsTold, longestFragment, FragmentTold}
+use Rattle.fragment_stream.specs.Telling.{mateAt, longestRead, ReadTold, PairTold, ReadsFound, longestReads, ReadsTold, longestFragment, FragmentTold}
 use Rattle.stream.proofs.Pieces.{here, bytes-in, bytes-lacking, behind-parsed, behind-wrong}
 use Rattle.fragment_stream.proofs.Mates.{read-longest}
 
@@ -89,7 +88,7 @@ module _ (b : List ℕ) (ordinal : ℕ) (p : ReadPlace) (t : ReadTold b 9 (reads
   two-told d h more =
       behind-first more
       ∙ behind-parsed (readsIn 1 (drop (p .end) b ++ more)) (λ rs. parsed (mateAt b p ∷ rs)) (mateAt b d ∷ []) (drop (d .end) b ++ more)
-          (behind-parsed (readIn (drop (p .end) b ++ more)) (nextRead 0) (mateAt b d) (drop (d .end) b ++ more) (h more))
+      (behind-parsed (readIn (drop (p .end) b ++ more)) (nextRead 0) (mateAt b d) (drop (d .end) b ++ more) (h more))
 
   two-told-all : (r : FragmentRead) → PairTold b ordinal p r → ReadsTold b ordinal 2 r
   two-told-all (fragments.Read h) k =
@@ -156,16 +155,19 @@ module _ (b : List ℕ) (count ordinal : ℕ) (h : 9 ≤ length b) (ec : count �
         }
 
     pub fragment-told : (r : FragmentRead) → ReadsTold b ordinal count r → FragmentTold b r
-    fragment-told (fragments.Read f) k =
-        (record {
-          within = k .within;
-          told =
-              λ more.
-              taken more
-              ∙ held (lentReads count (mateAt b (f .first)) (mateAt b (f .second))) (drop 9 b ++ more) (drop (f .end) b ++ more) (k .told more)
-              ∙ ap (λ n. parsed (fragmentOf n count (mateAt b (f .first)) (mateAt b (f .second))) (drop (f .end) b ++ more)) (sym (k .ordinal))
-              ∙ ap (λ n. parsed (fragmentOf (f .ordinal) n (mateAt b (f .first)) (mateAt b (f .second))) (drop (f .end) b ++ more)) (sym (k .count));
-        }, k .first, k .second)
+    fragment-told (fragments.Read f) k = (
+      record {
+        within = k .within;
+        told =
+            λ more.
+            taken more
+            ∙ held (lentReads count (mateAt b (f .first)) (mateAt b (f .second))) (drop 9 b ++ more) (drop (f .end) b ++ more) (k .told more)
+            ∙ ap (λ n. parsed (fragmentOf n count (mateAt b (f .first)) (mateAt b (f .second))) (drop (f .end) b ++ more)) (sym (k .ordinal))
+            ∙ ap (λ n. parsed (fragmentOf (f .ordinal) n (mateAt b (f .first)) (mateAt b (f .second))) (drop (f .end) b ++ more)) (sym (k .count));
+      },
+      k .first,
+      k .second,
+    )
     fragment-told fragments.Wrong k = λ more. taken more ∙ passed (drop 9 b ++ more) (k more)
     fragment-told fragments.More k =
         record {

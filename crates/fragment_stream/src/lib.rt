@@ -5,8 +5,8 @@ ghost use mathlib.Core.Path.{_≡_};
 ghost use Prim.Native.Nat.{_≤_};
 ghost use Rattle.stream.specs.Commands.{roleOf, readFits, qualitiesOf};
 ghost use Rattle.fragment_stream.specs.Telling.{ReadTold, PairTold, ReadsTold, FragmentTold};
-use stream::little_endian;
 use audit_rules::settings::MateRole;
+use stream::little_endian;
 
 // Where a read stands: its bases, and behind them its qualities.
 pub struct ReadPlace {
@@ -60,7 +60,10 @@ fn read_fits(role: u8, mark: u8, length: u64) -> bool
     if 1 < mark {
         return false;
     }
-    length <= 4096
+    if 4096 < length {
+        return false;
+    }
+    true
 }
 
 // How many qualities stand behind so many bases.

@@ -1,5 +1,4 @@
 pub mod Number
-pub mod Marks
 pub mod Names
 pub mod Pieces
 pub mod Settings

@@ -5,7 +5,7 @@ use mathlib.Core.Bool.{Bool, true, false}
 use mathlib.Core.List.{List, [], _++_, append-nil}
 use Prim.Native.Nat.{ℕ, _+_, _-_, _<_, _≤_}
 use native.Mathlib.Omega.{arith}
-use lib.ListN.{length, getD, take, drop, length-append, length-drop}
+use lib.ListN.{length, take, drop, length-append, length-drop}
 use lib.Dec.{leb}
 use lib.Seq.{take-append-le, drop-append-le, length-take-le, take-add, drop-at, drop-drop}
 use borrow.Author.Tests.{leb-true, leb-false, le-leb, lt-leb}
@@ -78,8 +78,8 @@ module _ {B : Type 0} (next : List ℕ → List ℕ → List ℕ → Parsed B) w
   two-lacking n k b h =
       by-test (leb n (length b))
       (λ t. let l = leb-true n (length b) t in
-          behind-parsed (bytesIn n b) (λ x rest. bytesIn k rest followedBy λ y. next x y) (take n b) (drop n b) (bytes-there n b l)
-          ∙ behind-wrong (bytesIn k (drop n b)) (λ y. next (take n b) y) (bytes-lacking k (drop n b) (simp length-drop (omega arith))))
+      behind-parsed (bytesIn n b) (λ x rest. bytesIn k rest followedBy λ y. next x y) (take n b) (drop n b) (bytes-there n b l)
+      ∙ behind-wrong (bytesIn k (drop n b)) (λ y. next (take n b) y) (bytes-lacking k (drop n b) (simp length-drop (omega arith))))
       (λ t. behind-wrong (bytesIn n b) (λ x rest. bytesIn k rest followedBy λ y. next x y) (bytes-lacking n b (leb-false n (length b) t)))
 
   -- from place s on

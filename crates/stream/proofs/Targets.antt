@@ -13,7 +13,7 @@ use Rattle.lists.specs.Cut.{window}
 use Rattle.lists.proofs.Cases.{and-true}
 use Rattle.lists.specs.Filter.{every}
 use Rattle.catalogue.specs.Catalogue.{Catalogue}
-use Rattle.stream.specs.Operands.{Parsed, parsed, wrong, bytesIn, littleEndian}
+use Rattle.stream.specs.Operands.{Parsed, bytesIn, littleEndian}
 use Rattle.stream.specs.Commands.{maxStreamTargets, maxStreamBases, isMark, provided, isNameByte, withTarget, targetFits, targetIn}
 use Rattle.stream.specs.Telling.{Read, Refused, Short, longestTarget}
 use Rattle.stream.proofs.Pieces.{here, drop-take, granted, denied, bytes-in, bytes-lacking, behind-parsed, behind-wrong, twoIn, two-wrong, two-lacking, two-in}

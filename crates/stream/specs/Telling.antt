@@ -5,7 +5,6 @@ use Prim.Native.Nat.{ℕ, _+_, _≤_, _<_}
 use lib.ListN.{length, drop}
 use Rattle.lists.specs.Cut.{window}
 use Rattle.catalogue.specs.Catalogue.{Catalogue}
-use Rattle.audit_rules.specs.declared.settings.Settings.{Settings}
 use Rattle.stream.specs.declared.SettingsRead.{SettingsRead}
 use Rattle.stream.specs.declared.SettingsRead.the-variants as settings
 use Rattle.stream.specs.declared.TargetRead.{TargetRead}

@@ -4,7 +4,6 @@ ghost use Prim.Native.Nat.{_≤_};
 ghost use lib.ListN.{length};
 ghost use Rattle.lists.specs.Filter.{every};
 ghost use Rattle.promises.specs.Slice.{old};
-ghost use Rattle.catalogue.specs.Catalogue.{Catalogue};
 ghost use Rattle.stream.specs.Operands.{littleEndian};
 ghost use Rattle.stream.specs.Commands.{modeOf, isNameByte, targetFits};
 ghost use Rattle.stream.specs.Telling.{SettingsTold, TargetsTold};
@@ -35,11 +34,12 @@ pub fn little_endian(bytes: &[u8]) -> u64
     requires { ⌜ length (now bytes) ≤ 8 ⌝ }
     ensures { λ r. ⌜ r ≡ littleEndian (old bytes) ⌝ }
 {
-    let mut i = bytes.len();
+    let n = bytes.len();
+    let mut i: usize = 0;
     let mut number: u64 = 0;
-    while 0 < i {
-        i -= 1;
-        number = number * 256 + bytes[i] as u64;
+    while i < n {
+        i += 1;
+        number = number * 256 + bytes[n - i] as u64;
     }
     number
 }
@@ -109,7 +109,10 @@ fn target_fits(topology: u8, name: usize, count: u64, targets: usize, held: usiz
     if 16 <= targets {
         return false;
     }
-    count <= 1024 - held as u64
+    if 1024 - (held as u64) < count {
+        return false;
+    }
+    true
 }
 
 // A target, behind 02, in a catalogue of so many targets and bases.

@@ -1,40 +1,32 @@
+-- `fragment_stream::read_pair` meets its contract: the second read's answer, behind the first.
+-- Assumes nothing.
 use mathlib.Core.Path.{refl}
 use Rattle.fragment_stream.proofs.Fragments.{told-as}
 use borrow.Author.Needs.{needs}
 use Rattle.fragment_stream.proofs.read_pair.Statement.{statement}
 use Rattle.fragment_stream.proofs.read_pair.Tie as tie
-use Rattle.fragment_stream.proofs.read_pair.Reads as reads
-use Rattle.fragment_stream.proofs.read_pair.Lts as lts
-use Rattle.fragment_stream.proofs.read_read.Reads as read-read-reads
 
--- src/reads.rt:117:11
 read-read-requires : tie.Need-read-read-requires
 read-read-requires c κs = search needs
 
--- src/reads.rt:118:26
 enum-known-second : tie.Need-enum-known-second
 enum-known-second c = search needs
 
--- src/reads.rt:128:29
 enum-told : tie.Need-enum-told
 enum-told c = search needs
 
--- src/reads.rt:129:28
 enum-told-2 : tie.Need-enum-told-2
 enum-told-2 c = search needs
 
--- src/reads.rt:112:1
 returns : tie.Need-returns
-returns c = 
+returns c =
     let a = c .before .before .before .before .before .args in
     let t = told-as (a .bytes .now) (a .first .end) (c .before .second .given .1) (c .before .before .before .read-read .ensures) in
     record { ordinal = refl; count = refl; first = refl; placed = t .0; end = refl; told = t .1 }
 
--- src/reads.rt:112:1
 returns-2 : tie.Need-returns-2
 returns-2 c = let a = c .before .before .before .before .args in told-as (a .bytes .now) (a .first .end) (c .enum-told .given .1) (c .before .before .read-read .ensures)
 
--- src/reads.rt:112:1
 returns-3 : tie.Need-returns-3
 returns-3 c = let a = c .before .before .before .before .args in told-as (a .bytes .now) (a .first .end) (c .enum-told2 .given .1) (c .before .before .read-read .ensures)
 

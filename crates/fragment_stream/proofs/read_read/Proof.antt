@@ -1,19 +1,16 @@
-use mathlib.Core.Path.{_≡_, refl, sym, ap, _∙_}
+-- `fragment_stream::read_read` meets its contract: the code, then the head is judged, then there are enough bytes.
+-- Assumes nothing.
+use mathlib.Core.Path.{_≡_, refl, sym, _∙_}
 use mathlib.Core.Bool.{true}
 use Prim.Native.Nat.{ℕ, _+_, _-_, _≤_}
 use native.Mathlib.Omega.{arith}
 use lib.ListN.{getD}
 use borrow.Author.Tests.{not-true, not-false}
-use Rattle.stream.specs.Commands.{readFits, qualitiesOf}
+use Rattle.stream.specs.Commands.{readFits}
 use Rattle.fragment_stream.proofs.Mates.{read-most, qualities-most, read-none, no-read, read-headless, read-refused, read-short, read-found}
 use borrow.Author.Needs.{needs}
 use Rattle.fragment_stream.proofs.read_read.Statement.{statement}
 use Rattle.fragment_stream.proofs.read_read.Tie as tie
-use Rattle.fragment_stream.proofs.read_read.Reads as reads
-use Rattle.fragment_stream.proofs.read_read.Lts as lts
-use Rattle.fragment_stream.proofs.quality_count.Reads as quality-count-reads
-use Rattle.fragment_stream.proofs.read_fits.Reads as read-fits-reads
-use Rattle.fragment_stream.proofs.role_of.Reads as role-of-reads
 
 -- the head's number of bases, and that the head fits
 abbrev number : tie.Else4 → ℕ
@@ -29,121 +26,93 @@ few c =
     let q = qualities-most (getD (a .bytes .now) (a .at + 2) 0) (number (c .before)) in
     omega (arith, c .quality-count .ensures)
 
--- src/reads.rt:81:16
 sub-left : tie.Need-sub-left
 sub-left c = search needs
 
--- src/reads.rt:83:9
 returns : tie.Need-returns
 returns c = let a = c .before .before .args in read-none (a .bytes .now) (a .at) (omega arith)
 
--- src/reads.rt:85:8
 shared-slice-read-if2 : tie.Need-shared-slice-read-if2
 shared-slice-read-if2 c = search needs
 
--- src/reads.rt:86:9
 returns-2 : tie.Need-returns-2
 returns-2 c = let a = c .before .before .before .before .args in no-read (a .bytes .now) (a .at) (omega arith) (λ e. omega arith)
 
--- src/reads.rt:89:9
 returns-3 : tie.Need-returns-3
 returns-3 c = let a = c .before .before .before .before .before .args in read-headless (a .bytes .now) (a .at) (omega arith) (omega arith) (omega arith)
 
--- src/reads.rt:91:22
 add-role : tie.Need-add-role
 add-role c = search needs
 
--- src/reads.rt:91:16
 shared-slice-read-role : tie.Need-shared-slice-read-role
 shared-slice-read-role c = search needs
 
--- src/reads.rt:92:22
 add-mark : tie.Need-add-mark
 add-mark c = search needs
 
--- src/reads.rt:92:16
 shared-slice-read-mark : tie.Need-shared-slice-read-mark
 shared-slice-read-mark c = search needs
 
--- src/reads.rt:93:39
 add-little-endian : tie.Need-add-little-endian
 add-little-endian c = search needs
 
--- src/reads.rt:93:47
 add-little-endian-2 : tie.Need-add-little-endian-2
 add-little-endian-2 c = search needs
 
--- src/reads.rt:93:32
 sub-little-endian : tie.Need-sub-little-endian
 sub-little-endian c = search needs
 
--- src/reads.rt:93:32
 part-little-endian-start : tie.Need-part-little-endian-start
 part-little-endian-start c = search needs
 
--- src/reads.rt:93:32
 part-little-endian-end : tie.Need-part-little-endian-end
 part-little-endian-end c = search needs
 
--- src/reads.rt:93:9
 little-endian-requires : tie.Need-little-endian-requires
 little-endian-requires c κs = search needs
 
--- src/reads.rt:94:9
 read-fits-requires : tie.Need-read-fits-requires
 read-fits-requires c κs = search needs
 
--- src/reads.rt:95:9
 returns-4 : tie.Need-returns-4
-returns-4 c = 
+returns-4 c =
     let a = c .before .before .before .before .before .before .before .before .before .before .before .args in
     read-refused (a .bytes .now) (a .at) _ _ (c .before .before .little-endian .result) (a .at + 7 - (a .at + 3)) (omega arith) (omega arith) refl refl (c .before .before .little-endian .ensures) (omega arith) (sym (c .before .read-fits .ensures) ∙ not-true _ (c .if4 .taken))
 
--- src/reads.rt:98:9
 quality-count-requires : tie.Need-quality-count-requires
 quality-count-requires c κs = search needs
 
--- src/reads.rt:99:19
 add-if5 : tie.Need-add-if5
 add-if5 c = omega (arith, few c)
 
--- src/reads.rt:100:9
 returns-5 : tie.Need-returns-5
-returns-5 c = 
+returns-5 c =
     let a = c .before .before .before .before .before .before .before .before .before .before .before .before .before .args in
     read-short (a .bytes .now) (a .at) _ _ (number (c .before .before)) (a .at + 7 - (a .at + 3)) (omega arith) (omega arith) refl refl (c .before .before .before .before .little-endian .ensures) (omega arith) (fits (c .before .before)) _ (c .before .quality-count .ensures) (omega (arith, few (c .before)))
 
--- src/reads.rt:103:15
 role-of-requires : tie.Need-role-of-requires
 role-of-requires c κs = search needs
 
--- src/reads.rt:105:15
 add-t15 : tie.Need-add-t15
 add-t15 c = search needs
 
--- src/reads.rt:106:17
 add-t9 : tie.Need-add-t9
 add-t9 c = search needs
 
--- src/reads.rt:106:17
 add-t17 : tie.Need-add-t17
 add-t17 c = search needs
 
--- src/reads.rt:107:14
 add-t22 : tie.Need-add-t22
 add-t22 c = search needs
 
--- src/reads.rt:107:14
 add-t23 : tie.Need-add-t23
 add-t23 c = search needs
 
--- src/reads.rt:107:14
 add-t24 : tie.Need-add-t24
 add-t24 c = search needs
 
--- src/reads.rt:77:1
 returns-6 : tie.Need-returns-6
-returns-6 c = 
+returns-6 c =
     let a = c .before .before .before .before .before .before .before .before .before .before .before .before .before .before .args in
     read-found (a .bytes .now) (a .at) (getD (a .bytes .now) (a .at + 1) 0) (getD (a .bytes .now) (a .at + 2) 0) (number (c .before .before .before)) (a .at + 7 - (a .at + 3)) (omega arith) (omega arith) refl refl (c .before .before .before .before .before .little-endian .ensures) (omega arith) (fits (c .before .before .before)) _ (c .before .before .quality-count .ensures) _ (omega (arith, few (c .before .before))) (omega arith) (omega arith) (omega arith) (c .role-of .ensures) refl
 

@@ -1,46 +1,35 @@
+-- `fragment_stream::read_reads` meets its contract: the first read's answer, and behind it the second's where there are two.
+-- Assumes nothing.
 use native.Mathlib.Omega.{arith}
 use Rattle.fragment_stream.proofs.Fragments.{told-as, reads-refused, reads-short, first-within, one-found, pair-told}
 use borrow.Author.Needs.{needs}
 use Rattle.fragment_stream.proofs.read_reads.Statement.{statement}
 use Rattle.fragment_stream.proofs.read_reads.Tie as tie
-use Rattle.fragment_stream.proofs.read_reads.Reads as reads
-use Rattle.fragment_stream.proofs.read_reads.Lts as lts
-use Rattle.fragment_stream.proofs.read_pair.Reads as read-pair-reads
-use Rattle.fragment_stream.proofs.read_read.Reads as read-read-reads
 
--- src/reads.rt:138:11
 read-read-requires : tie.Need-read-read-requires
 read-read-requires c κs = search needs
 
--- src/reads.rt:139:26
 enum-known-first : tie.Need-enum-known-first
 enum-known-first c = search needs
 
--- src/reads.rt:141:17
 read-pair-requires : tie.Need-read-pair-requires
 read-pair-requires c κs = let a = c .before .before .before .before .before .before .args in first-within (a .bytes .now) (a .ordinal) _ (told-as (a .bytes .now) 9 (c .before .before .first .given .1) (c .before .before .before .before .read-read .ensures))
 
--- src/reads.rt:141:17
 returns : tie.Need-returns
 returns c = let a = c .before .before .before .before .before .before .before .args in pair-told (a .bytes .now) (a .ordinal) _ (told-as (a .bytes .now) 9 (c .before .before .before .first .given .1) (c .before .before .before .before .before .read-read .ensures)) (a .count) (omega arith) (c .read-pair .result) (c .read-pair .ensures)
 
--- src/reads.rt:152:29
 enum-told : tie.Need-enum-told
 enum-told c = search needs
 
--- src/reads.rt:153:28
 enum-told-2 : tie.Need-enum-told-2
 enum-told-2 c = search needs
 
--- src/reads.rt:134:1
 returns-2 : tie.Need-returns-2
 returns-2 c = let a = c .before .before .before .before .before .before .args in one-found (a .bytes .now) (a .ordinal) _ (told-as (a .bytes .now) 9 (c .before .before .first .given .1) (c .before .before .before .before .read-read .ensures)) (a .count) (omega arith)
 
--- src/reads.rt:134:1
 returns-3 : tie.Need-returns-3
 returns-3 c = let a = c .before .before .before .before .args in reads-refused (a .bytes .now) (a .count) (omega arith) (told-as (a .bytes .now) 9 (c .enum-told .given .1) (c .before .before .read-read .ensures))
 
--- src/reads.rt:134:1
 returns-4 : tie.Need-returns-4
 returns-4 c = let a = c .before .before .before .before .args in reads-short (a .bytes .now) (a .count) (omega arith) (told-as (a .bytes .now) 9 (c .enum-told2 .given .1) (c .before .before .read-read .ensures))
 

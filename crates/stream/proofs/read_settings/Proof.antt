@@ -1,62 +1,47 @@
-use mathlib.Core.Path.{refl}
+-- `stream::read_settings` meets its contract: eleven bytes with two marks, whatever follows them.
+-- Assumes nothing.
 use native.Mathlib.Omega.{arith}
 use lib.ListN.{getD}
 use Rattle.stream.proofs.Settings.{settings-short, no-mode, no-remap, settings-read}
 use borrow.Author.Needs.{needs}
 use Rattle.stream.proofs.read_settings.Statement.{statement}
 use Rattle.stream.proofs.read_settings.Tie as tie
-use Rattle.stream.proofs.read_settings.Reads as reads
-use Rattle.stream.proofs.read_settings.Lts as lts
-use Rattle.stream.proofs.little_endian.Reads as little-endian-reads
-use Rattle.stream.proofs.mode_of.Reads as mode-of-reads
 
--- src/lib.rt:63:9
 returns : tie.Need-returns
 returns c = settings-short _ (omega arith)
 
--- src/lib.rt:65:16
 shared-slice-read-mode : tie.Need-shared-slice-read-mode
 shared-slice-read-mode c = search needs
 
--- src/lib.rt:66:17
 shared-slice-read-remap : tie.Need-shared-slice-read-remap
 shared-slice-read-remap c = search needs
 
--- src/lib.rt:68:9
 returns-2 : tie.Need-returns-2
 returns-2 c = no-mode (c .before .before .before .before .before .args .bytes .now) (omega arith) (omega arith)
 
--- src/lib.rt:71:9
 returns-3 : tie.Need-returns-3
 returns-3 c = no-remap (c .before .before .before .before .before .before .args .bytes .now) (omega arith) (omega arith) (omega arith)
 
--- src/lib.rt:74:15
 mode-of-requires : tie.Need-mode-of-requires
 mode-of-requires c κs = search needs
 
--- src/lib.rt:76:16
 shared-slice-read-t7 : tie.Need-shared-slice-read-t7
 shared-slice-read-t7 c = search needs
 
--- src/lib.rt:77:30
 sub-little-endian : tie.Need-sub-little-endian
 sub-little-endian c = search needs
 
--- src/lib.rt:77:30
 part-little-endian-start : tie.Need-part-little-endian-start
 part-little-endian-start c = search needs
 
--- src/lib.rt:77:30
 part-little-endian-end : tie.Need-part-little-endian-end
 part-little-endian-end c = search needs
 
--- src/lib.rt:77:16
 little-endian-requires : tie.Need-little-endian-requires
 little-endian-requires c κs = search needs
 
--- src/lib.rt:59:1
 returns-4 : tie.Need-returns-4
-returns-4 c = 
+returns-4 c =
     let b = c .before .before .before .before .before .before .before .before .before .before .args .bytes .now in
     settings-read b (omega arith) (omega arith) _ (getD b 1 0) _ _ (c .before .before .before .mode-of .ensures) (omega arith) (omega arith) (c .little-endian .ensures) (omega arith)
 
