@@ -95,12 +95,19 @@ targetIn c bytes =
 
 -- ---- 04: role, quality mark, length of 4 bytes, bases, qualities where the mark is 1
 
--- the length of the qualities
+-- the number of qualities behind so many bases: as many where the mark is 1
+abbrev pub qualitiesOf : ℕ → ℕ → ℕ
+qualitiesOf mark count = cond (isSet mark) count 0
+
 abbrev pub qualityCount : List ℕ → ℕ
-qualityCount h = cond (isSet (getD h 1 0)) (littleEndian (drop 2 h)) 0
+qualityCount h = qualitiesOf (getD h 1 0) (littleEndian (drop 2 h))
+
+-- a role, a mark, and no more bases than 4,096
+abbrev pub readFits : ℕ → ℕ → ℕ → Bool
+readFits role mark count = leb role 2 && isMark mark && leb count maxStreamRead
 
 abbrev pub readRight : List ℕ → Bool
-readRight h = leb (getD h 0 0) 2 && isMark (getD h 1 0) && leb (littleEndian (drop 2 h)) maxStreamRead
+readRight h = readFits (getD h 0 0) (getD h 1 0) (littleEndian (drop 2 h))
 
 -- what stands behind the code
 abbrev pub readOperands : List ℕ → Parsed MateRead

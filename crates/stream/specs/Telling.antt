@@ -1,26 +1,17 @@
 -- What the bytes that are there tell of every stream that begins with them (REFERENCE.md, "Stream").
 use mathlib.Core.Path.{_≡_}
 use mathlib.Core.List.{List, _++_}
-use Prim.Native.Nat.{ℕ, _+_, _-_, _≤_, _<_}
+use Prim.Native.Nat.{ℕ, _+_, _≤_, _<_}
 use lib.ListN.{length, drop}
 use Rattle.lists.specs.Cut.{window}
 use Rattle.catalogue.specs.Catalogue.{Catalogue}
-use Rattle.audit_rules.specs.declared.settings.Settings.{Settings}
-use Rattle.audit_rules.specs.Observing.{MateRead}
-use Rattle.audit_rules.specs.Calls.{mateOf, fragmentOf}
 use Rattle.stream.specs.declared.SettingsRead.{SettingsRead}
 use Rattle.stream.specs.declared.SettingsRead.the-variants as settings
 use Rattle.stream.specs.declared.TargetRead.{TargetRead}
 use Rattle.stream.specs.declared.TargetRead.the-variants as targets
 use Rattle.stream.specs.declared.TargetHead.{TargetHead}
-use Rattle.stream.specs.declared.reads.ReadPlace.{ReadPlace}
-use Rattle.stream.specs.declared.reads.ReadFound.{ReadFound}
-use Rattle.stream.specs.declared.reads.ReadFound.the-variants as reads
-use Rattle.stream.specs.declared.reads.FragmentHead.{FragmentHead}
-use Rattle.stream.specs.declared.reads.FragmentRead.{FragmentRead}
-use Rattle.stream.specs.declared.reads.FragmentRead.the-variants as fragments
 use Rattle.stream.specs.Operands.{Parsed, parsed, wrong}
-use Rattle.stream.specs.Commands.{settingsIn, withTarget, targetIn, readIn, fragmentIn}
+use Rattle.stream.specs.Commands.{settingsIn, withTarget, targetIn}
 
 -- ---- three ways to be told
 
@@ -62,33 +53,3 @@ TargetTold c bytes targets.More = Short (targetIn c) bytes longestTarget
 -- of every catalogue with so many targets and bases
 abbrev pub TargetsTold : ℕ → ℕ → List ℕ → TargetRead → Type 0
 TargetsTold targets held bytes r = (c : Catalogue) → length (c .marks) ≡ targets → length (c .bases) ≡ held → TargetTold c bytes r
-
--- a read, with its bases and qualities where they stand
-abbrev pub mateAt : List ℕ → ReadPlace → MateRead
-mateAt bytes p = mateOf (p .role) (window bytes (p .from) (p .middle - p .from)) (p .present) (window bytes (p .middle) (p .end - p .middle))
-
--- its places follow each other, within the bytes
-pub record Placed (bytes : List ℕ) (p : ReadPlace) : Type 0 where
-  pub bases : p .from ≤ p .middle
-  pub qualities : p .middle ≤ p .end
-  pub within : p .end ≤ length bytes
-
--- the longest: a code, six bytes, 4,096 bases and as many qualities
-abbrev pub longestRead : ℕ
-longestRead = 8199
-
--- a read that begins at a place of the bytes
-abbrev pub ReadTold : List ℕ → ℕ → ReadFound → Type 0
-ReadTold bytes at (reads.Found p) = Placed bytes p × ((more : List ℕ) → readIn (drop at bytes ++ more) ≡ parsed (mateAt bytes p) (drop (p .end) bytes ++ more))
-ReadTold bytes at reads.Wrong = Refused readIn (drop at bytes)
-ReadTold bytes at reads.More = Short readIn (drop at bytes) longestRead
-
--- the longest: nine bytes and two reads
-abbrev pub longestFragment : ℕ
-longestFragment = 16407
-
-abbrev pub FragmentTold : List ℕ → FragmentRead → Type 0
-FragmentTold bytes (fragments.Read h) =
-    Read fragmentIn bytes (fragmentOf (h .ordinal) (h .count) (mateAt bytes (h .first)) (mateAt bytes (h .second))) (h .end) × Placed bytes (h .first) × Placed bytes (h .second)
-FragmentTold bytes fragments.Wrong = Refused fragmentIn bytes
-FragmentTold bytes fragments.More = Short fragmentIn bytes longestFragment

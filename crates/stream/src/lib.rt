@@ -1,17 +1,14 @@
-// The commands of `catch` read from the bytes that are there: read, wrong, or more bytes are needed.
+// Settings and targets of `catch` read from the bytes that are there: read, wrong, or more bytes are needed.
 ghost use mathlib.Core.Path.{_≡_};
 ghost use Prim.Native.Nat.{_≤_};
 ghost use lib.ListN.{length};
 ghost use Rattle.lists.specs.Filter.{every};
 ghost use Rattle.promises.specs.Slice.{old};
-ghost use Rattle.catalogue.specs.Catalogue.{Catalogue};
 ghost use Rattle.stream.specs.Operands.{littleEndian};
-ghost use Rattle.stream.specs.Commands.{isNameByte, targetFits};
+ghost use Rattle.stream.specs.Commands.{modeOf, isNameByte, targetFits};
 ghost use Rattle.stream.specs.Telling.{SettingsTold, TargetsTold};
 use audit_rules::settings::AuditInputMode;
 use audit_rules::settings::Settings;
-
-pub mod reads;
 
 pub enum SettingsRead {
     Read(Settings),
@@ -37,13 +34,23 @@ pub fn little_endian(bytes: &[u8]) -> u64
     requires { ⌜ length (now bytes) ≤ 8 ⌝ }
     ensures { λ r. ⌜ r ≡ littleEndian (old bytes) ⌝ }
 {
-    let mut i = bytes.len();
+    let n = bytes.len();
+    let mut i: usize = 0;
     let mut number: u64 = 0;
-    while 0 < i {
-        i -= 1;
-        number = number * 256 + bytes[i] as u64;
+    while i < n {
+        i += 1;
+        number = number * 256 + bytes[n - i] as u64;
     }
     number
+}
+
+fn mode_of(number: u8) -> AuditInputMode
+    ensures { λ r. ⌜ r ≡ modeOf number ⌝ }
+{
+    if number == 0 {
+        return AuditInputMode::SingleEnd;
+    }
+    AuditInputMode::PairedEnd
 }
 
 // Settings, behind 01.
@@ -55,16 +62,14 @@ pub fn read_settings(bytes: &[u8]) -> SettingsRead
     }
     let mode = bytes[0];
     let remap = bytes[1];
-    if 1 < mode || 1 < remap {
+    if 1 < mode {
         return SettingsRead::Wrong;
     }
-    let layout = if mode == 0 {
-        AuditInputMode::SingleEnd
-    } else {
-        AuditInputMode::PairedEnd
-    };
+    if 1 < remap {
+        return SettingsRead::Wrong;
+    }
     SettingsRead::Read(Settings {
-        mode: layout,
+        mode: mode_of(mode),
         remap: remap == 1,
         floor: bytes[2],
         limit: little_endian(&bytes[3..11]),
@@ -79,7 +84,10 @@ fn is_name(bytes: &[u8]) -> bool
     let mut i: usize = 0;
     while i < n {
         let byte = bytes[i];
-        if byte < 33 || 126 < byte {
+        if byte < 33 {
+            return false;
+        }
+        if 126 < byte {
             return false;
         }
         i += 1;
@@ -101,7 +109,10 @@ fn target_fits(topology: u8, name: usize, count: u64, targets: usize, held: usiz
     if 16 <= targets {
         return false;
     }
-    count <= 1024 - held as u64
+    if 1024 - (held as u64) < count {
+        return false;
+    }
+    true
 }
 
 // A target, behind 02, in a catalogue of so many targets and bases.

@@ -3,10 +3,10 @@ ghost use lib.ListN.{length};
 ghost use Rattle.promises.specs.Slice.{old};
 ghost use mathlib.Core.Path.{_≡_};
 ghost use Prim.Native.Nat.{_≤_};
-ghost use Rattle.stream.specs.Commands.{roleOf};
-ghost use Rattle.stream.specs.Telling.{ReadTold, FragmentTold};
-use crate::little_endian;
+ghost use Rattle.stream.specs.Commands.{roleOf, readFits, qualitiesOf};
+ghost use Rattle.fragment_stream.specs.Telling.{ReadTold, PairTold, ReadsTold, FragmentTold};
 use audit_rules::settings::MateRole;
+use stream::little_endian;
 
 // Where a read stands: its bases, and behind them its qualities.
 pub struct ReadPlace {
@@ -50,6 +50,32 @@ fn role_of(number: u8) -> MateRole
     MateRole::R2
 }
 
+// Whether a read has a role, a mark and no more bases than 4,096.
+fn read_fits(role: u8, mark: u8, length: u64) -> bool
+    ensures { λ r. ⌜ r ≡ readFits role mark length ⌝ }
+{
+    if 2 < role {
+        return false;
+    }
+    if 1 < mark {
+        return false;
+    }
+    if 4096 < length {
+        return false;
+    }
+    true
+}
+
+// How many qualities stand behind so many bases.
+fn quality_count(mark: u8, count: usize) -> usize
+    ensures { λ r. ⌜ r ≡ qualitiesOf mark count ⌝ }
+{
+    if mark == 1 {
+        return count;
+    }
+    0
+}
+
 // A read with its code, from a place on.
 pub fn read_read(bytes: &[u8], at: usize) -> ReadFound
     requires { ⌜ at ≤ length (now bytes) ⌝ }
@@ -68,11 +94,11 @@ pub fn read_read(bytes: &[u8], at: usize) -> ReadFound
     let role = bytes[at + 1];
     let mark = bytes[at + 2];
     let length = little_endian(&bytes[at + 3..at + 7]);
-    if 2 < role || 1 < mark || 4096 < length {
+    if !read_fits(role, mark, length) {
         return ReadFound::Wrong;
     }
     let count = length as usize;
-    let qualities = if mark == 1 { count } else { 0 };
+    let qualities = quality_count(mark, count);
     if left - 7 < count + qualities {
         return ReadFound::More;
     }
@@ -86,7 +112,10 @@ pub fn read_read(bytes: &[u8], at: usize) -> ReadFound
 }
 
 // The second read of a pair, behind the first.
-fn read_pair(bytes: &[u8], ordinal: u64, first: ReadPlace) -> FragmentRead {
+fn read_pair(bytes: &[u8], ordinal: u64, first: ReadPlace) -> FragmentRead
+    requires { ⌜ first .end ≤ length (now bytes) ⌝ }
+    ensures { λ r. ⌜ PairTold (old bytes) ordinal first r ⌝ }
+{
     let at = first.end;
     match read_read(bytes, at) {
         ReadFound::Found(second) => {
@@ -105,7 +134,10 @@ fn read_pair(bytes: &[u8], ordinal: u64, first: ReadPlace) -> FragmentRead {
 }
 
 // One read or two, behind nine bytes.
-fn read_reads(bytes: &[u8], ordinal: u64, count: usize) -> FragmentRead {
+fn read_reads(bytes: &[u8], ordinal: u64, count: usize) -> FragmentRead
+    requires { ⌜ (9 ≤ length (now bytes)) × (1 ≤ count) × (count ≤ 2) ⌝ }
+    ensures { λ r. ⌜ ReadsTold (old bytes) ordinal count r ⌝ }
+{
     match read_read(bytes, 9) {
         ReadFound::Found(first) => {
             if count == 2 {
