@@ -18,7 +18,7 @@ use Rattle.ledger.specs.Balance.{balanced}
 use Rattle.audit_rules.specs.Opening.{openingRefusal}
 use Rattle.audit_rules.specs.Fragment.{testedRefusal, fragmentRefusal}
 use Rattle.audit_rules.specs.Sheet.{finishRefusal}
-use Rattle.lines.specs.Text.{text, digits}
+use Rattle.texts.specs.Text.{text, digits}
 use Rattle.catch_rules.specs.Job.{catch, written}
 
 abbrev stream : List ℕ
