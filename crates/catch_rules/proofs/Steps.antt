@@ -71,13 +71,13 @@ module _ (s : Settings) (c : Catalogue) (bytes : List ℕ) where
   pub supply-short : targetIn c bytes ≡ wrong → still (supplying s c) (2 ∷ bytes) ≡ refusalLine 20
   supply-short e = still-ends (supplying s c) (2 ∷ bytes) (refusalLine 20) (when-short (targetIn c) (λ d. goes [] (supplying s d)) bytes e)
 
+  abbrev refusal : ℕ
+  refusal = openingRefusal auditSeed auditOffset c (lentOf c) s (started c s .counters)
+
   pub supply-other : (code : ℕ) → (code ≡ 2 → ⊥) → (code ≡ 3 → ⊥) → (code ≡ 5 → ⊥) → Ends (supplying s c) (code ∷ bytes) (refusalLine 20)
   supply-other code two three five more =
       let neither : (eqb code 3 || eqb code 5) ≡ false = rw (ne-eqb code 3 three, ne-eqb code 5 five) refl in
-      still-ends (supplying s c) (code ∷ bytes ++ more) (refusalLine 20) (not-code code 2 _ _ two ∙ ap (λ b. cond b _ (refuses 20)) neither)
-
-  abbrev refusal : ℕ
-  refusal = openingRefusal auditSeed auditOffset c (lentOf c) s (started c s .counters)
+      still-ends (supplying s c) (code ∷ bytes ++ more) (refusalLine 20) (not-code code 2 _ _ two ∙ ap (λ b. cond b (opened refusal s c (code ∷ bytes ++ more)) (refuses 20)) neither)
 
   -- the opening is run at 03 and at 05
   at-opening : (code : ℕ) → (eqb code 3 || eqb code 5) ≡ true → (code ≡ 2 → ⊥) → (more : List ℕ) → command (supplying s c) (code ∷ bytes ++ more) ≡ opened refusal s c (code ∷ bytes ++ more)
