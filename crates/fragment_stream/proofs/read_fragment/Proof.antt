@@ -24,7 +24,7 @@ little-endian-requires : tie.Need-little-endian-requires
 little-endian-requires c κs = search needs
 
 shared-slice-read-count : tie.Need-shared-slice-read-count
-shared-slice-read-count c = search needs
+shared-slice-read-count c = omega arith
 
 cast-count : tie.Need-cast-count
 cast-count c = omega (arith, c .shared-slice-known2 .given 8)

@@ -12,7 +12,7 @@ use borrow.Author.Needs.{needs}
 use Rattle.fragment_stream.proofs.read_read.Statement.{statement}
 use Rattle.fragment_stream.proofs.read_read.Tie as tie
 
--- the head's number of bases, and that the head fits
+-- a head that fits: its number of bases, and that there are few
 abbrev number : tie.Else4 → ℕ
 number c = c .before .before .little-endian .result
 
@@ -66,7 +66,7 @@ part-little-endian-start : tie.Need-part-little-endian-start
 part-little-endian-start c = search needs
 
 part-little-endian-end : tie.Need-part-little-endian-end
-part-little-endian-end c = search needs
+part-little-endian-end c = omega arith
 
 little-endian-requires : tie.Need-little-endian-requires
 little-endian-requires c κs = search needs

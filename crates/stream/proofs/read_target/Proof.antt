@@ -1,7 +1,7 @@
 -- `stream::read_target` meets its contract: the head is judged first, then there are enough bytes, then the identifier.
 -- Assumes nothing.
 use mathlib.Core.Path.{_≡_, refl, sym, _∙_}
-use mathlib.Core.Bool.{true}
+use mathlib.Core.Bool.{true, false}
 use Prim.Native.Nat.{ℕ, _+_, _-_, _<_, _≤_}
 use native.Mathlib.Omega.{arith}
 use lib.ListN.{getD}
@@ -12,7 +12,11 @@ use borrow.Author.Needs.{needs}
 use Rattle.stream.proofs.read_target.Statement.{statement}
 use Rattle.stream.proofs.read_target.Tie as tie
 
--- the head's number of bases, and that the head fits
+-- a head that does not fit
+misfit : (c : tie.Then2) → let a = c .before .before .before .before .before .before .before .before .args in targetFits (getD (a .bytes .now) 0 0) (getD (a .bytes .now) 1 0) (c .before .before .little-endian .result) (a .targets) (a .held) ≡ false
+misfit c = sym (c .before .target-fits .ensures) ∙ not-true _ (c .if2 .taken)
+
+-- one that fits: its number of bases, and that there are few
 abbrev number : tie.Else2 → ℕ
 number c = c .before .before .little-endian .result
 
@@ -56,7 +60,7 @@ returns-2 : tie.Need-returns-2
 returns-2 c =
     λ k m h.
     let a = c .before .before .before .before .before .before .before .before .args in
-    target-refused k (a .bytes .now) _ _ _ (a .targets) (a .held) m h (omega arith) refl refl (c .before .before .little-endian .ensures) (sym (c .before .target-fits .ensures) ∙ not-true _ (c .if2 .taken))
+    target-refused k (a .bytes .now) _ _ (c .before .before .little-endian .result) (a .targets) (a .held) m h (omega arith) refl refl (c .before .before .little-endian .ensures) (misfit c)
 
 sub-if3 : tie.Need-sub-if3
 sub-if3 c = search needs
@@ -80,7 +84,7 @@ part-is-name-start : tie.Need-part-is-name-start
 part-is-name-start c = search needs
 
 part-is-name-end : tie.Need-part-is-name-end
-part-is-name-end c = search needs
+part-is-name-end c = omega arith
 
 is-name-requires : tie.Need-is-name-requires
 is-name-requires c κs = search needs
