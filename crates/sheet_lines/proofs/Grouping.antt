@@ -1,16 +1,13 @@
 -- The lines of groups, entry by entry.
 -- Assumes nothing.
-use mathlib.Core.Path.{_≡_, refl, sym, ap, _∙_}
-use mathlib.Core.List.{List, [], _∷_, _++_, append-assoc, append-nil}
-use Prim.Native.Nat.{ℕ, zero, suc, _+_, _*_, _≤_, _<_}
-use native.Mathlib.Numerals.{add-one}
+use mathlib.Core.Path.{_≡_, sym, ap, _∙_}
+use mathlib.Core.List.{List, [], _++_, append-assoc, append-nil}
+use Prim.Native.Nat.{ℕ, zero, suc, _+_, _*_}
 use native.Mathlib.Omega.{arith}
-use lib.ListN.{length, getD, drop}
+use lib.ListN.{getD, drop}
 use lib.Seq.{getD-drop}
-use Rattle.texts.specs.Writing.{Adds, AddsAtMost}
-use Rattle.texts.proofs.Adding.{adds-both, adds-none}
-use Rattle.lines.specs.Lines.{lineRoom, groupLine, groupLines}
-use Rattle.sheet_lines.specs.Lent.{namedRoom, entryLine}
+use Rattle.lines.specs.Lines.{groupLine, groupLines}
+use Rattle.sheet_lines.specs.Lent.{entryLine}
 
 -- the entries behind the first
 entry-behind : (names : List (List ℕ)) (entries : List ℕ) (i : ℕ) → entryLine names (drop 4 entries) i ≡ entryLine names entries (suc i)
@@ -25,30 +22,8 @@ entry-behind names entries i =
     four p q s t p′ q′ s′ t′ f g h k = rw (f, g, h, k)
 
 -- one entry more
-lines-more : (names : List (List ℕ)) (i : ℕ) (entries : List ℕ) → groupLines names (suc i) entries ≡ groupLines names i entries ++ entryLine names entries i
+pub lines-more : (names : List (List ℕ)) (i : ℕ) (entries : List ℕ) → groupLines names (suc i) entries ≡ groupLines names i entries ++ entryLine names entries i
 lines-more names zero entries = append-nil _
 lines-more names (suc i) entries =
     ap (λ (l : List ℕ). entryLine names entries 0 ++ l) (lines-more names i (drop 4 entries) ∙ ap (λ (l : List ℕ). groupLines names i (drop 4 entries) ++ l) (entry-behind names entries i))
     ∙ sym (append-assoc (entryLine names entries 0) (groupLines names i (drop 4 entries)) (entryLine names entries (suc i)))
-
--- the lines of the first i entries stand behind the first `at` bytes of an output
-pub record Grouped (names : List (List ℕ)) (entries out : List ℕ) (at n : ℕ) (out′ : List ℕ) (p i : ℕ) : Type 0 where
-  pub adds : Adds (groupLines names i entries) out at out′ p
-  pub room : p ≤ at + i * namedRoom
-  pub sized : length out′ ≡ length out
-  pub inside : i ≤ n
-
-pub grouped-none : (names : List (List ℕ)) (entries out : List ℕ) (at n : ℕ) → Grouped names entries out at n out at 0
-grouped-none names entries out at n = record { adds = adds-none out at; room = omega arith; sized = refl; inside = omega arith }
-
-module _ {names : List (List ℕ)} {entries out : List ℕ} {at n : ℕ} {out′ : List ℕ} {p i : ℕ} (f : Grouped names entries out at n out′ p i) where
-  pub grouped-room : i < n → at + n * namedRoom ≤ length out → p + namedRoom ≤ length out′
-  grouped-room h l = omega arith
-
-  pub grouped-more : {out″ : List ℕ} {q : ℕ} → i < n → AddsAtMost namedRoom (entryLine names entries i) out′ p out″ q → length out″ ≡ length out′ → Grouped names entries out at n out″ q (i + 1)
-  grouped-more h g e = record { adds = rw (add-one, lines-more) (adds-both (f .adds) (g .adds)); room = omega arith; sized = e ∙ f .sized; inside = omega arith }
-
-  pub grouped-all : n ≤ i → AddsAtMost (n * namedRoom) (groupLines names n entries) out at out′ p
-  grouped-all h =
-      let e : i ≡ n = omega arith in
-      record { adds = rw e at (f .adds); room = omega arith }
