@@ -17,7 +17,7 @@ use Rattle.lines.specs.Lines.{refusalLine}
 use Rattle.stream.specs.Operands.{Parsed, wrong}
 use Rattle.stream.specs.Commands.{settingsIn, targetIn, fragmentIn}
 use Rattle.stream.specs.Telling.{Read, Refused}
-use Rattle.catch_rules.specs.Sheets.{fragmentLines, sheetLines}
+use Rattle.sheet_lines.specs.Sheets.{fragmentLines, sheetLines}
 use Rattle.catch_rules.specs.Job.{noTargets, lentOf, streamEntries, Stage, beginning, supplying, running, Step, goes, refuses, whenRead, audited, finished, opened, command, still}
 use Rattle.catch_rules.specs.Feeding.{Goes, Ends}
 use Rattle.catch_rules.proofs.Shrinking.{still-ends, still-goes, still-same}

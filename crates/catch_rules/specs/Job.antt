@@ -15,7 +15,7 @@ use Rattle.audit_rules.specs.Sheet.{finishRefusal}
 use Rattle.lines.specs.Lines.{refusalLine}
 use Rattle.stream.specs.Operands.{Parsed, parsed, wrong}
 use Rattle.stream.specs.Commands.{settingsIn, targetIn, fragmentIn}
-use Rattle.catch_rules.specs.Sheets.{fragmentLines, sheetLines}
+use Rattle.sheet_lines.specs.Sheets.{fragmentLines, sheetLines}
 
 -- ---- what is lent
 
