@@ -1,9 +1,9 @@
 -- What `catch` writes of a fragment and of a finished run (REFERENCE.md, "Lines").
 use mathlib.Core.List.{List, [], _∷_, _++_}
-use Prim.Native.Nat.{ℕ, _*_}
+use Prim.Native.Nat.{ℕ}
 use lib.ListN.{drop}
 use Rattle.lists.specs.Triple.{Triple}
-use Rattle.catalogue.specs.Catalogue.{Catalogue, Target, names, targets}
+use Rattle.catalogue.specs.Catalogue.{Catalogue, Target, targets}
 use Rattle.answers.specs.Answer.{Row}
 use Rattle.ledger.specs.Booking.{Counters}
 use Rattle.audit_rules.specs.declared.sheet.Sheet.{Sheet}
