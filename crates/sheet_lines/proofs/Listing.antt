@@ -31,3 +31,7 @@ module _ {lines : ℕ → List ℕ} {out : List ℕ} {at n : ℕ} {out′ : List
   listed-all h =
       let e : i ≡ n = omega arith in
       record { adds = rw e at (f .adds); room = omega arith }
+
+-- three parts
+pub three-added : {i j k : ℕ} {a b c out out₁ out₂ out′ : List ℕ} {at p q r : ℕ} → AddsAtMost i a out at out₁ p → AddsAtMost j b out₁ p out₂ q → AddsAtMost k c out₂ q out′ r → AddsAtMost (i + j + k) (a ++ b ++ c) out at out′ r
+three-added f g h = record { adds = adds-both (adds-both (f .adds) (g .adds)) (h .adds); room = omega arith }

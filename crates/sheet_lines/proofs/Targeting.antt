@@ -3,7 +3,7 @@
 use mathlib.Core.Path.{_≡_, refl, sym, ap, _∙_}
 use mathlib.Core.List.{List, [], _∷_, _++_, append-assoc, append-nil}
 use Prim.Native.Nat.{ℕ, suc, _+_}
-use native.Mathlib.Numerals.{add-one, unary-clauses}
+use native.Mathlib.Numerals.{add-one}
 use native.Mathlib.Omega.{arith}
 use lib.ListN.{length, getD, drop}
 use lib.Seq.{getD-drop, drop-drop}
@@ -20,7 +20,7 @@ use Rattle.sheet_lines.specs.Lent.{placeLine, placeLines, sheetTold}
 
 -- the first of what is left behind j
 first-left : {A : Type 0} (l : List A) (j : ℕ) (x d : A) (xs : List A) → drop j l ≡ x ∷ xs → getD l j d ≡ x
-first-left l j x d xs e =
+first-left {A = A} l j x d xs e =
     let k : j + 0 ≡ j = omega arith in
     sym (ap (λ (i : ℕ). getD l i d) k) ∙ sym (getD-drop j l 0 d) ∙ ap (λ (m : List A). getD m 0 d) e
 
