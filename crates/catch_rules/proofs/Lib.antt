@@ -1,0 +1,5 @@
+pub mod Shrinking
+pub mod Feeding
+pub mod Steps
+pub mod Sizes
+pub mod Example

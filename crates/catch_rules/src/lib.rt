@@ -1,0 +1,1 @@
+// `catch` on paper; what it writes is said in specs/.

@@ -1,0 +1,5 @@
+pub mod Number
+pub mod Names
+pub mod Pieces
+pub mod Settings
+pub mod Targets

@@ -1,0 +1,16 @@
+-- `stream::mode_of` meets its contract: a number that is not 0 stands for pairs.
+-- Assumes nothing.
+use native.Mathlib.Omega.{arith}
+use Rattle.stream.proofs.Settings.{paired}
+use borrow.Author.Needs.{needs}
+use Rattle.stream.proofs.mode_of.Statement.{statement}
+use Rattle.stream.proofs.mode_of.Tie as tie
+
+returns : tie.Need-returns
+returns c = search needs
+
+returns-2 : tie.Need-returns-2
+returns-2 c = paired (c .before .args .number) (omega arith)
+
+pub mode-of-spec : {M : Type 1} → statement M
+mode-of-spec = tie.close (tie.spec returns returns-2)
