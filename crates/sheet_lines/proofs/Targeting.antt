@@ -1,6 +1,7 @@
 -- What is written of a sheet is what its catalogue and its books say.
 -- Assumes nothing.
 use mathlib.Core.Path.{_≡_, refl, sym, ap, _∙_}
+use mathlib.Core.Bool.{true}
 use mathlib.Core.List.{List, [], _∷_, _++_, append-assoc, append-nil}
 use Prim.Native.Nat.{ℕ, suc, _+_}
 use native.Mathlib.Numerals.{add-one}
@@ -9,7 +10,8 @@ use lib.ListN.{length, getD, drop}
 use lib.Seq.{getD-drop, drop-drop}
 use lib.Dec.{eqb}
 use Rattle.lists.proofs.Cut.{length-cut}
-use Rattle.catalogue.specs.Catalogue.{Catalogue, names, sequences, targets, targetsFrom}
+use Rattle.catalogue.specs.Catalogue.{Catalogue, names, sequences, targets, targetsFrom, inBounds}
+use Rattle.catalogue.proofs.Checks.{bounded}
 use Rattle.ledger.specs.Booking.{Counters}
 use Rattle.audit_rules.specs.declared.sheet.Sheet.{Sheet}
 use Rattle.audit_rules.specs.Settings.{Held}
@@ -48,14 +50,14 @@ module _ (sheet : Sheet) (k : Counters) (ns : List (List ℕ)) (ms : List ℕ) w
       ∙ rest-told (suc j) ns′ ss ms′ (others-left ns j n ns′ e) (others-left ms j m ms′ f) (omega arith) (omega arith)
       ∙ ap (placeLines (sheet .run .status) k ns ms) z
 
-module _ (c : Catalogue) (bs : length (c .baseEnds) ≡ length (c .identifierEnds)) (ms : length (c .marks) ≡ length (c .identifierEnds)) where
+module _ (c : Catalogue) (within : inBounds c ≡ true) where
   -- the targets of a catalogue
   pub targets-told : (sheet : Sheet) (k : Counters) → targetLines sheet k (targets c) ≡ placeLines (sheet .run .status) k (names c) (c .marks) (length (c .identifierEnds))
   targets-told sheet k =
       let e = length-cut 0 (c .identifierEnds) (c .identifiers) in
       let f = length-cut 0 (c .baseEnds) (c .bases) in
       let z : 0 + length (names c) ≡ length (c .identifierEnds) = omega arith in
-      rest-told sheet k (names c) (c .marks) 0 (names c) (sequences c) (c .marks) refl refl (f ∙ bs ∙ sym e) (ms ∙ sym e) ∙ ap (placeLines (sheet .run .status) k (names c) (c .marks)) z
+      rest-told sheet k (names c) (c .marks) 0 (names c) (sequences c) (c .marks) refl refl (f ∙ bounded c within .sequenced ∙ sym e) (bounded c within .marked ∙ sym e) ∙ ap (placeLines (sheet .run .status) k (names c) (c .marks)) z
 
   -- a sheet
   pub sheet-told : (h : Held) → sheetLines c h ≡ sheetTold (sheetOf h) (h .counters) (names c) (c .marks) (length (c .identifierEnds))
