@@ -14,15 +14,15 @@ use Rattle.lines.specs.Lines.{readLine, groupLines, countLine, targetLine, runL
 
 -- ---- an accepted fragment
 
--- a read: R, and G for each of its groups, which stand at the front of its part of the entries
-abbrev pub readLines : List (List ℕ) → ℕ → MateRead → Row → List ℕ → List ℕ
-readLines ns ordinal m r entries = readLine ordinal (roleNumber (m .role)) r ++ groupLines ns (r .groups) entries
+-- a read with the number of its role: R, and G for each of its groups, which stand at the front of its part of the entries
+abbrev pub readLines : List (List ℕ) → ℕ → ℕ → Row → List ℕ → List ℕ
+readLines ns ordinal role r entries = readLine ordinal role r ++ groupLines ns (r .groups) entries
 
 -- one read after the other, each with a part of `width` numbers
 abbrev pub fragmentLines : List (List ℕ) → ℕ → ℕ → List MateRead → List Row → List ℕ → List ℕ
 fragmentLines ns ordinal width [] rows entries = []
 fragmentLines ns ordinal width (m ∷ ms) [] entries = []
-fragmentLines ns ordinal width (m ∷ ms) (r ∷ rows) entries = readLines ns ordinal m r entries ++ fragmentLines ns ordinal width ms rows (drop width entries)
+fragmentLines ns ordinal width (m ∷ ms) (r ∷ rows) entries = readLines ns ordinal (roleNumber (m .role)) r entries ++ fragmentLines ns ordinal width ms rows (drop width entries)
 
 -- ---- a finished run
 
