@@ -89,12 +89,14 @@ targetsShown sheet k c = map (targetShown sheet k) (targets c)
 
 -- ---- the call
 
+-- 18, where the books do not agree with themselves
+abbrev pub booksRefusal : Held → ℕ
+booksRefusal h = unless (balanced (rolesOf (h .state .settings .mode)) (statesShown (h .state .settings .remap)) (booksOf h)) 18
+
 module _ (q offset : ℕ) (c : Catalogue) (lent : IndexLent) (h : Held) where
   -- the opening's checks, then 18
   unfoldable pub finishRefusal : ℕ
-  finishRefusal =
-      openingRefusal q offset c lent (h .state .settings) (h .counters)
-      orElse unless (balanced (rolesOf (h .state .settings .mode)) (statesShown (h .state .settings .remap)) (booksOf h)) 18
+  finishRefusal = openingRefusal q offset c lent (h .state .settings) (h .counters) orElse booksRefusal h
 
   abbrev pub finishAnswer : Outcome Sheet
   finishAnswer = outcome finishRefusal (sheetOf h)

@@ -4,6 +4,7 @@ ghost use Rattle.catalogue.specs.Catalogue.{lentCatalogue};
 ghost use Rattle.seeds.specs.Key.{SeedLength};
 ghost use Prim.Native.Nat.{_≤_};
 ghost use Rattle.audit_rules.specs.Calls.{lentHeld, lentIndex, Finishes};
+ghost use Rattle.finishing.specs.Tested.{FinishesTested};
 use audit_rules::calls::CallAnswer;
 use audit_rules::calls::Finish;
 use audit_rules::settings::AuditState;
@@ -12,6 +13,29 @@ use fresh::zero_state;
 use opening::check_opening;
 use sheets::balance::books_agree;
 use sheets::showing::sheet_of;
+
+// Finishes an audit whose catalogue was tested: 18, or its sheet.
+pub fn finish_tested(
+    placements: &[u64],
+    singles: &[u64],
+    multi: &[u64],
+    state: AuditState,
+) -> Finish
+    ensures { λ r. ⌜ FinishesTested (lentHeld state placements singles multi) r ⌝ }
+{
+    let settings = state.settings;
+    let ledger = state.ledger;
+    if !books_agree(ledger, placements, singles, multi, settings) {
+        return Finish {
+            answer: CallAnswer::Refused(18),
+            sheet: sheet_of(zero_state()),
+        };
+    }
+    Finish {
+        answer: CallAnswer::Accepted,
+        sheet: sheet_of(state),
+    }
+}
 
 // Finishes an audit with seeds of q bases and qualities from an offset on: refused, or its sheet.
 pub fn finish_audit(
@@ -37,7 +61,6 @@ pub fn finish_audit(
 {
     let mut ranked = [0usize; 4096];
     let settings = state.settings;
-    let ledger = state.ledger;
     let ranking = check_opening(
         &mut ranked,
         placements,
@@ -56,23 +79,11 @@ pub fn finish_audit(
         offset,
         settings,
     );
-    let nothing = sheet_of(zero_state());
     match ranking {
         Ranking::Refused(n) => Finish {
             answer: CallAnswer::Refused(n),
-            sheet: nothing,
+            sheet: sheet_of(zero_state()),
         },
-        Ranking::Ranked(k) => {
-            if !books_agree(ledger, placements, singles, multi, settings) {
-                return Finish {
-                    answer: CallAnswer::Refused(18),
-                    sheet: nothing,
-                };
-            }
-            Finish {
-                answer: CallAnswer::Accepted,
-                sheet: sheet_of(state),
-            }
-        }
+        Ranking::Ranked(k) => finish_tested(placements, singles, multi, state),
     }
 }

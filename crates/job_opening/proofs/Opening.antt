@@ -90,6 +90,8 @@ module _ (c : Catalogue) (s : Settings) (k : Counters) (r : Ranking) (ranked : L
     job-opened m e ks rs os ks′ rs′ os′ stored = (
       plain-opening c s k ∙ unrefused auditSeed auditOffset c none s k r ranked p n told,
       record {
+        several = job-prefix ∙ ap length (p .ranks n told);
+        many = sym (count-is m e);
         places = p .ranks n told;
         keys = front m (keysOf (index auditSeed c)) ks ks′ (length-map (index auditSeed c) _ ∙ count-is m e) (stored .keys ∙ ap (λ i. placed 0 (keysOf i) ks) same-index);
         ranks = front m (ranksOf (index auditSeed c)) rs rs′ (length-map (index auditSeed c) _ ∙ count-is m e) (stored .ranks ∙ ap (λ i. placed 0 (ranksOf i) rs) same-index);

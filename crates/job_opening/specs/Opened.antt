@@ -24,6 +24,8 @@ pub record JobRoom (ranked ks rs os bases : List ℕ) : Type 0 where
 
 -- the supplied place of each rank, and the index, stand at the front
 pub record JobIndexed (c : Catalogue) (i : Indexed) (ranked ks rs os : List ℕ) : Type 0 where
+  pub several : i .ranked ≡ length (suppliedPlaces c)
+  pub many : i .postings ≡ length (index auditSeed c)
   pub places : take (i .ranked) ranked ≡ suppliedPlaces c
   pub keys : take (i .postings) ks ≡ keysOf (index auditSeed c)
   pub ranks : take (i .postings) rs ≡ ranksOf (index auditSeed c)

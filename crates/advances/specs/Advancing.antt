@@ -1,0 +1,50 @@
+-- What a step of a job leaves (REFERENCE.md, "Stream").
+use mathlib.Core.Path.{_≡_}
+use mathlib.Core.Bool.{Bool, true, false}
+use mathlib.Core.List.{List, []}
+use Prim.Native.Nat.{ℕ, _≤_}
+use lib.ListN.{length, drop}
+use Rattle.texts.specs.Writing.{AddsAtMost}
+use Rattle.lines.specs.Lines.{lineRoom, refusalLine}
+use Rattle.fragment_stream.specs.Telling.{longestFragment}
+use Rattle.catch_rules.specs.Job.{Stage, still}
+use Rattle.catch_rules.specs.Feeding.{Goes, Ends}
+use Rattle.advances.specs.declared.Progress.{Progress}
+use Rattle.advances.specs.declared.Progress.the-variants as progress
+use Rattle.advances.specs.declared.Advance.{Advance}
+
+-- no step writes more: the lines of two reads, and of 256 groups
+abbrev pub stepRoom : ℕ
+stepRoom = 98304
+
+-- whatever follows the bytes that are there, and nothing where the stream ends with them: a text is written and the run goes on behind n of
+-- them, or it is written and that is all, or nothing is written and nothing changes; then there are fewer than a code and a fragment can have
+abbrev pub Tells : Bool → Stage → List ℕ → Progress → List ℕ → Stage → Type 0
+Tells ended before bytes (progress.Went n) text after = (n ≤ length bytes) × Goes before bytes text after (drop n bytes)
+Tells true before bytes progress.Ended text after = still before bytes ≡ text
+Tells false before bytes progress.Ended text after = Ends before bytes text
+Tells true before bytes progress.More text after = ⊥
+Tells false before bytes progress.More text after = (text ≡ []) × (before ≡ after) × (length bytes ≤ longestFragment)
+
+-- a step from one stage to another: the text that it writes, and what that tells
+pub record Advances (ended : Bool) (before : Stage) (bytes out : List ℕ) (at : ℕ) (out′ : List ℕ) (r : Advance) (after : Stage) : Type 0 where
+  pub text : List ℕ
+  pub adds : AddsAtMost stepRoom text out at out′ (r .at)
+  pub told : Tells ended before bytes (r .progress) text after
+
+-- ---- what steps are made of
+
+-- E and a number, and that is all
+pub record Refuses (number : ℕ) (out : List ℕ) (at : ℕ) (out′ : List ℕ) (r : Advance) : Type 0 where
+  pub adds : AddsAtMost lineRoom (refusalLine number) out at out′ (r .at)
+  pub last : r .progress ≡ progress.Ended
+
+-- nothing is written
+pub record Waits (at : ℕ) (r : Advance) : Type 0 where
+  pub same : r .at ≡ at
+  pub more : r .progress ≡ progress.More
+
+-- a command that is not whole: 20 at the end of the stream
+abbrev pub Stays : Bool → List ℕ → ℕ → List ℕ → Advance → Type 0
+Stays true out at out′ r = Refuses 20 out at out′ r
+Stays false out at out′ r = Waits at r × (out′ ≡ out)

@@ -1,0 +1,234 @@
+// A job: one command of its stream after the other.
+ghost use mathlib.Core.Path.{_≡_};
+ghost use Prim.Native.Nat.{_+_, _*_, _≤_};
+ghost use lib.ListN.{length};
+ghost use Rattle.promises.specs.Slice.{old, new};
+ghost use Rattle.catch_rules.specs.Job.{streamEntries};
+ghost use Rattle.advances.specs.Advancing.{stepRoom};
+ghost use Rattle.job.specs.Jobs.{newJob, begunJob, openedJob, buffersOf, lentBuffers, leftBuffers, JobKept, JobAdvances};
+use advances::Advance;
+use advances::Progress;
+use advances::wait_or_refuse;
+use audit_rules::settings::AuditState;
+use fresh::fresh_state;
+use fresh::zero_state;
+use job_opening::Indexed;
+use running::run;
+use supplies::Supply;
+use supplying::Begun;
+use supplying::Opened;
+use supplying::begin;
+use supplying::open;
+use supplying::supply;
+
+// Nothing is read; or settings, and targets so far; or the job is opened.
+pub enum JobStage {
+    Beginning,
+    Supplying,
+    Running,
+}
+
+// How far a job has come, how many targets it has, how they are indexed, and the state of its audit with its settings.
+pub struct Job {
+    pub stage: JobStage,
+    pub supply: Supply,
+    pub indexed: Indexed,
+    pub state: AuditState,
+}
+
+pub struct Advanced {
+    pub job: Job,
+    pub advance: Advance,
+}
+
+// A job of which nothing is read.
+pub fn new_job() -> Job
+    ensures { λ r. ⌜ r ≡ newJob ⌝ }
+{
+    Job {
+        stage: JobStage::Beginning,
+        supply: Supply {
+            targets: 0,
+            names: 0,
+            bases: 0,
+        },
+        indexed: Indexed {
+            ranked: 0,
+            postings: 0,
+        },
+        state: zero_state(),
+    }
+}
+
+// A job behind its first command.
+fn begun_job(at: usize, job: Job, begun: Begun) -> Advanced
+    ensures { λ r. ⌜ r ≡ begunJob at job begun ⌝ }
+{
+    let supply = job.supply;
+    let indexed = job.indexed;
+    match begun {
+        Begun::Stopped(advance) => Advanced { job, advance },
+        Begun::Read(settings) => Advanced {
+            job: Job {
+                stage: JobStage::Supplying,
+                supply,
+                indexed,
+                state: fresh_state(settings),
+            },
+            advance: Advance {
+                at,
+                progress: Progress::Went(12),
+            },
+        },
+    }
+}
+
+// A job behind its opening. The code that it is run at is read again by the next step.
+fn opened_job(at: usize, job: Job, opened: Opened) -> Advanced
+    ensures { λ r. ⌜ r ≡ openedJob at job opened ⌝ }
+{
+    let supply = job.supply;
+    let state = job.state;
+    match opened {
+        Opened::Stopped(advance) => Advanced { job, advance },
+        Opened::Indexed(indexed) => Advanced {
+            job: Job {
+                stage: JobStage::Running,
+                supply,
+                indexed,
+                state,
+            },
+            advance: Advance {
+                at,
+                progress: Progress::Went(0),
+            },
+        },
+    }
+}
+
+// One step, with the bytes that are there; `ended` where the stream ends with them.
+pub fn advance(
+    out: &mut [u8],
+    identifiers: &mut [u8],
+    identifier_ends: &mut [usize],
+    bases: &mut [u8],
+    base_ends: &mut [usize],
+    marks: &mut [u8],
+    ranked: &mut [usize],
+    keys: &mut [u64],
+    ranks: &mut [u64],
+    positions: &mut [u64],
+    placements: &mut [u64],
+    singles: &mut [u64],
+    multi: &mut [u64],
+    entries: &mut [u64],
+    at: usize,
+    bytes: &[u8],
+    ended: bool,
+    job: Job,
+) -> Advanced
+    requires { ⌜ JobKept job (buffersOf (now identifiers) (now «identifier_ends») (now bases) (now «base_ends») (now marks) (now ranked) (now keys) (now ranks) (now positions)
+        (now placements) (now singles) (now multi)) × (length (now entries) ≡ 4 * streamEntries) × (at + stepRoom ≤ length (now out)) ⌝ }
+    ensures { λ r. ⌜ JobAdvances ended job (lentBuffers identifiers «identifier_ends» bases «base_ends» marks ranked keys ranks positions placements singles multi) (old bytes) (old out) at (new out) r
+        (leftBuffers identifiers «identifier_ends» bases «base_ends» marks ranked keys ranks positions placements singles multi) ⌝ }
+{
+    if bytes.len() == 0 {
+        return Advanced {
+            job,
+            advance: wait_or_refuse(out, at, ended),
+        };
+    }
+    let code = bytes[0];
+    let rest = &bytes[1..];
+    let stage = job.stage;
+    let held = job.supply;
+    let indexed = job.indexed;
+    let state = job.state;
+    let targets = held.targets;
+    let names = held.names;
+    let count = held.bases;
+    match stage {
+        JobStage::Beginning => {
+            let begun = begin(out, at, code, rest, ended);
+            begun_job(at, job, begun)
+        }
+        JobStage::Supplying => {
+            if code == 2 {
+                let supplied = supply(
+                    out,
+                    identifiers,
+                    identifier_ends,
+                    bases,
+                    base_ends,
+                    marks,
+                    at,
+                    rest,
+                    ended,
+                    held,
+                );
+                return Advanced {
+                    job: Job {
+                        stage,
+                        supply: supplied.supply,
+                        indexed,
+                        state,
+                    },
+                    advance: supplied.advance,
+                };
+            }
+            let opened = open(
+                out,
+                ranked,
+                keys,
+                ranks,
+                positions,
+                &placements[..targets],
+                &singles[..targets],
+                &multi[..targets],
+                &identifiers[..names],
+                &identifier_ends[..targets],
+                &bases[..count],
+                &base_ends[..targets],
+                &marks[..targets],
+                at,
+                code,
+                state.settings,
+            );
+            opened_job(at, job, opened)
+        }
+        JobStage::Running => {
+            let n = indexed.postings;
+            let k = indexed.ranked;
+            let step = run(
+                out,
+                entries,
+                &mut placements[..targets],
+                &mut singles[..targets],
+                &mut multi[..targets],
+                &keys[..n],
+                &ranks[..n],
+                &positions[..n],
+                &identifiers[..names],
+                &identifier_ends[..targets],
+                &bases[..count],
+                &base_ends[..targets],
+                &marks[..targets],
+                &ranked[..k],
+                at,
+                code,
+                rest,
+                ended,
+                state,
+            );
+            Advanced {
+                job: Job {
+                    stage,
+                    supply: held,
+                    indexed,
+                    state: step.state,
+                },
+                advance: step.advance,
+            }
+        }
+    }
+}

@@ -1,0 +1,106 @@
+// A fragment in a catalogue that was tested: audited, and its lines written.
+ghost use lib.ListN.{length};
+ghost use Rattle.promises.specs.Slice.{old, new};
+ghost use Rattle.names.specs.Lent.{lentCut};
+ghost use Rattle.index.specs.Index.{lentSequences};
+ghost use Rattle.ledger.specs.Booking.{countersOf, leftCounters};
+ghost use Rattle.audit_rules.specs.Calls.{lentHeld};
+ghost use Rattle.told_fragments.specs.Told.{TellLent, Tells};
+use audit_rules::calls::FragmentAudit;
+use audit_rules::settings::AuditState;
+use fragment_lines::put_answer;
+use fragment_stream::FragmentHead;
+use observing::share_of;
+use tested_fragments::audit_tested;
+
+// The length of a seed, and the quality byte that stands for 0.
+const SEED: usize = 15;
+
+const OFFSET: u8 = 33;
+
+// Where the output ends, and the answer with the state.
+pub struct ToldFragment {
+    pub end: usize,
+    pub audit: FragmentAudit,
+}
+
+// Audits a fragment whose reads stand in bytes, and writes its lines.
+pub fn tell_fragment(
+    out: &mut [u8],
+    entries: &mut [u64],
+    placements: &mut [u64],
+    singles: &mut [u64],
+    multi: &mut [u64],
+    keys: &[u64],
+    ranks: &[u64],
+    positions: &[u64],
+    identifiers: &[u8],
+    identifier_ends: &[usize],
+    bases: &[u8],
+    base_ends: &[usize],
+    ranked: &[usize],
+    at: usize,
+    bytes: &[u8],
+    head: FragmentHead,
+    state: AuditState,
+) -> ToldFragment
+    requires { ⌜ TellLent (now bases) (now «base_ends») (now ranked) (now keys) (now ranks) (now positions) (now identifiers) (now «identifier_ends») (now bytes) head (state .settings)
+        (countersOf (now placements) (now singles) (now multi)) (now entries) (now out) at ⌝ }
+    ensures { λ r. ⌜ Tells (lentSequences bases «base_ends» ranked) (old ranked) (lentCut identifiers «identifier_ends») (lentHeld state placements singles multi) (old bytes) head r
+        (leftCounters placements singles multi) (old entries) (new entries) (old out) at (new out) ⌝ }
+{
+    let first = head.first;
+    let second = head.second;
+    // where the bases and the qualities of each read begin and end
+    let a = first.from;
+    let b = first.middle;
+    let c = first.end;
+    let d = second.from;
+    let e = second.middle;
+    let f = second.end;
+    let first_role = first.role;
+    let second_role = second.role;
+    let settings = state.settings;
+    let mode = settings.mode;
+    let width = 4 * share_of(mode, entries.len() / 4);
+    let audit = audit_tested(
+        entries,
+        placements,
+        singles,
+        multi,
+        keys,
+        ranks,
+        positions,
+        bases,
+        base_ends,
+        ranked,
+        &bytes[a..b],
+        &bytes[b..c],
+        &bytes[d..e],
+        &bytes[e..f],
+        first_role,
+        first.present,
+        second_role,
+        second.present,
+        head.ordinal,
+        head.count,
+        true,
+        SEED,
+        OFFSET,
+        state,
+    );
+    let answer = audit.answer;
+    let end = put_answer(
+        out,
+        at,
+        identifiers,
+        identifier_ends,
+        entries,
+        width,
+        head.ordinal,
+        first_role,
+        second_role,
+        answer,
+    );
+    ToldFragment { end, audit }
+}
