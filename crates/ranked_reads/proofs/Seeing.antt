@@ -39,7 +39,7 @@ use Rattle.ranked_reads.specs.Observe.{sightBooked}
 
 module _ (s : Settings) (ss : List (List ℕ)) (x : Sight) where
   -- as many groups are listed as its row says
-  sight-listed : (way : Way) → sightRow s ss way x .groups ≡ length (sightListed s ss x)
+  pub sight-listed : (way : Way) → sightRow s ss way x .groups ≡ length (sightListed s ss x)
   sight-listed way = go (x .searched)
     where
       gs : List Place
