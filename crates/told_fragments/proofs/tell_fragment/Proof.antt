@@ -1,99 +1,92 @@
+-- `told_fragments::tell_fragment` meets its contract: the fragment is audited, and the lines of its answer are written.
+-- Assumes nothing.
+use native.Mathlib.Omega.{arith}
+use Rattle.scan.specs.Entries.{entryCount}
+use Rattle.audit_rules.specs.Calls.{heldOf}
+use Rattle.observing.proofs.Fragment.{known-within}
+use Rattle.told_fragments.proofs.Answered.{answer-lent, answer-short, answer-written}
 use borrow.Author.Needs.{needs}
 use Rattle.told_fragments.proofs.tell_fragment.Statement.{statement}
 use Rattle.told_fragments.proofs.tell_fragment.Tie as tie
-use Rattle.told_fragments.proofs.tell_fragment.Reads as reads
-use Rattle.told_fragments.proofs.tell_fragment.Lts as lts
-use Rattle.fragment_lines.proofs.put_answer.Reads as put-answer-reads
-use Rattle.observing.proofs.share_of.Reads as share-of-reads
-use Rattle.tested_fragments.proofs.audit_tested.Reads as audit-tested-reads
 
--- src/lib.rt:65:21
 share-of-requires : tie.Need-share-of-requires
 share-of-requires c κs = search needs
 
--- src/lib.rt:65:17
 mul-width : tie.Need-mul-width
-mul-width c = ?
+mul-width c = 
+    let s = c .before .before .before .before .before .before .before .before .before .before .before .before .before .before .before .before .before .before in
+    omega (arith, s .pre .whole, known-within (s .args .state .settings .mode) (entryCount (s .args .entries .now)) (c .share-of .result) (c .share-of .ensures))
 
--- src/lib.rt:77:9
 sub-audit-tested : tie.Need-sub-audit-tested
 sub-audit-tested c = search needs
 
--- src/lib.rt:77:9
 part-audit-tested-start : tie.Need-part-audit-tested-start
 part-audit-tested-start c = search needs
 
--- src/lib.rt:77:9
 part-audit-tested-end : tie.Need-part-audit-tested-end
 part-audit-tested-end c = search needs
 
--- src/lib.rt:78:9
 sub-audit-tested-2 : tie.Need-sub-audit-tested-2
 sub-audit-tested-2 c = search needs
 
--- src/lib.rt:78:9
 part-audit-tested-start-2 : tie.Need-part-audit-tested-start-2
 part-audit-tested-start-2 c = search needs
 
--- src/lib.rt:78:9
 part-audit-tested-end-2 : tie.Need-part-audit-tested-end-2
 part-audit-tested-end-2 c = search needs
 
--- src/lib.rt:79:9
 sub-audit-tested-3 : tie.Need-sub-audit-tested-3
 sub-audit-tested-3 c = search needs
 
--- src/lib.rt:79:9
 part-audit-tested-start-3 : tie.Need-part-audit-tested-start-3
 part-audit-tested-start-3 c = search needs
 
--- src/lib.rt:79:9
 part-audit-tested-end-3 : tie.Need-part-audit-tested-end-3
 part-audit-tested-end-3 c = search needs
 
--- src/lib.rt:80:9
 sub-audit-tested-4 : tie.Need-sub-audit-tested-4
 sub-audit-tested-4 c = search needs
 
--- src/lib.rt:80:9
 part-audit-tested-start-4 : tie.Need-part-audit-tested-start-4
 part-audit-tested-start-4 c = search needs
 
--- src/lib.rt:80:9
 part-audit-tested-end-4 : tie.Need-part-audit-tested-end-4
 part-audit-tested-end-4 c = search needs
 
--- src/lib.rt:66:9
 audit-tested-requires : tie.Need-audit-tested-requires
 audit-tested-requires c κs = search needs
 
--- src/lib.rt:93:9
 put-answer-requires : tie.Need-put-answer-requires
-put-answer-requires c κs = ?
+put-answer-requires c κs = 
+    let s = c .before .before .before .before .before .before .before .before .before .before .before .before .before .before .before .before .before .before .before .before .before .before .before .before .before .before .before .before .before .before .before .before .before .before .before .before .before in
+    let a = s .args in
+    let t = c .before .before .before .before .before .before .before .before .before .before .audit-tested in
+    (answer-lent (a .bases .now) (a .base-ends .now) (a .ranked .now) (a .keys .now) (a .ranks .now) (a .positions .now) (a .identifiers .now) (a .identifier-ends .now) (a .bytes .now) (a .head) (heldOf (a .state) (a .placements .now) (a .singles .now) (a .multi .now)) (a .entries .now) (a .out .now) (a .at) (s .pre) (c .before .before .before .before .before .before .before .before .before .before .before .before .before .before .before .before .before .before .before .share-of .result) (c .before .before .before .before .before .before .before .before .before .before .before .before .before .before .before .before .before .before .before .share-of .ensures) (t .last .0) (t .result .answer) (t .ensures .observed), omega (arith, s .pre .room, answer-short (a .bases .now) (a .base-ends .now) (a .ranked .now) (a .keys .now) (a .ranks .now) (a .positions .now) (a .identifiers .now) (a .identifier-ends .now) (a .bytes .now) (a .head) (heldOf (a .state) (a .placements .now) (a .singles .now) (a .multi .now)) (a .entries .now) (a .out .now) (a .at) (s .pre) (c .before .before .before .before .before .before .before .before .before .before .before .before .before .before .before .before .before .before .before .share-of .result) (c .before .before .before .before .before .before .before .before .before .before .before .before .before .before .before .before .before .before .before .share-of .ensures) (t .last .0) (t .kept .0) (t .result .answer) (t .ensures .observed)))
 
--- src/lib.rt:28:1
 same-length : tie.Need-same-length
 same-length c = search needs
 
--- src/lib.rt:28:1
 same-length-2 : tie.Need-same-length-2
 same-length-2 c = search needs
 
--- src/lib.rt:28:1
 same-length-3 : tie.Need-same-length-3
 same-length-3 c = search needs
 
--- src/lib.rt:28:1
 same-length-4 : tie.Need-same-length-4
 same-length-4 c = search needs
 
--- src/lib.rt:28:1
 same-length-5 : tie.Need-same-length-5
 same-length-5 c = search needs
 
--- src/lib.rt:28:1
 returns : tie.Need-returns
-returns c = ?
+returns c = 
+    let s = c .before .before .before .before .before .before .before .before .before .before .before .before .before .before .before .before .before .before .before .before .before .before .before .before .before .before .before .before .before .before .before .before .before .before .before .before .before .before .before .before in
+    let a = s .args in
+    let t = c .before .before .before .before .before .before .before .before .before .before .before .before .before .audit-tested in
+    record {
+      audited = t .ensures;
+      adds = answer-written (a .bases .now) (a .base-ends .now) (a .ranked .now) (a .keys .now) (a .ranks .now) (a .positions .now) (a .identifiers .now) (a .identifier-ends .now) (a .bytes .now) (a .head) (heldOf (a .state) (a .placements .now) (a .singles .now) (a .multi .now)) (a .entries .now) (a .out .now) (a .at) (s .pre) (c .before .before .before .before .before .before .before .before .before .before .before .before .before .before .before .before .before .before .before .before .before .before .share-of .result) (c .before .before .before .before .before .before .before .before .before .before .before .before .before .before .before .before .before .before .before .before .before .before .share-of .ensures) (t .last .0) (t .kept .0) (t .result .answer) (t .ensures .observed) _ _ (c .before .before .put-answer .ensures);
+    }
 
 pub tell-fragment-spec : {M : Type 1} → statement M
 tell-fragment-spec =

@@ -1,0 +1,137 @@
+-- The answer of an audited fragment: its groups stand in the entries, and its lines have room.
+-- Assumes nothing.
+use mathlib.Core.Path.{_≡_, refl, sym, ap, subst, _∙_}
+use mathlib.Core.List.{List, [], _∷_, map, head-eq-of-cons-eq}
+use Prim.Native.Nat.{ℕ, _*_, _≤_, _<_, _/_}
+use native.Mathlib.Omega.{arith}
+use native.Mathlib.Nat.{mul-comm}
+use lib.ListN.{length, getD, drop, length-map, length-drop}
+use types.Run.{OneOf, hit}
+use denote.Enum.Declared.{tagOf}
+use Rattle.lists.specs.Cut.{cut}
+use Rattle.promises.proofs.Refusing.{none-first, outcome-accepted}
+use Rattle.index.specs.Index.{rankedSequences}
+use Rattle.scan.specs.Entries.{entryCount}
+use Rattle.index_search.specs.Work.{Way, byIndex}
+use Rattle.answers.specs.Answer.{Row}
+use Rattle.search.proofs.Parts.{listed-room}
+use Rattle.ledger.specs.Booking.{Counters}
+use Rattle.raising.specs.Targets.{Targeted}
+use Rattle.audit_rules.specs.declared.calls.FragmentAnswer.{FragmentAnswer}
+use Rattle.audit_rules.specs.declared.calls.FragmentAnswer.the-variants as fragments
+use Rattle.audit_rules.proofs.calls.FragmentAnswer.{the-type}
+use Rattle.audit_rules.specs.declared.settings.Settings.{Settings}
+use Rattle.audit_rules.specs.Settings.{Held, auditSeed, auditOffset, roleNumber}
+use Rattle.audit_rules.specs.Observing.{MateRead, sightOf, mateGroups, mateRoom, mateRow}
+use Rattle.audit_rules.specs.Fragment.{firstOf, shareOf, testedRows}
+use Rattle.audit_rules.specs.Calls.{mappingRow}
+use Rattle.audit_rules.proofs.Checking.{tested-checked}
+use Rattle.tallies.specs.Answers.{AnswerPostable}
+use Rattle.ranked_reads.proofs.Seeing.{sight-listed}
+use Rattle.tested_fragments.specs.Tested.{TestedObserved}
+use Rattle.tested_fragments.proofs.Booked.{raisable}
+use Rattle.texts.specs.Writing.{AddsAtMost}
+use Rattle.sheet_lines.specs.Lent.{NamesLent, EntriesLent}
+use Rattle.fragment_lines.specs.Answer.{answerLines, answerRoom, AnswerLent}
+use Rattle.fragment_stream.specs.declared.FragmentHead.{FragmentHead}
+use Rattle.fragment_stream.specs.Telling.{mateAt}
+use Rattle.catch_rules.specs.Job.{streamEntries}
+use Rattle.advances.specs.Advancing.{stepRoom}
+use Rattle.advances.proofs.Advancing.{roomier}
+use Rattle.told_fragments.specs.Told.{fragmentAt, TellLent}
+
+-- ---- the groups of an answer
+
+-- targets that have counters have names, where there are as many
+module _ (ids ends : List ℕ) (named : NamesLent ids ends) (targets : ℕ) (each : targets ≡ length ends) where
+  entries-lent : (entries : List ℕ) (n : ℕ) → Targeted n entries targets → EntriesLent ids ends entries n
+  entries-lent entries n t =
+      record {
+        named = named;
+        listed = omega (arith, t .room);
+        placed = λ i h. subst (λ k. getD entries (i * 4) 0 < k) each (subst (λ j. getD entries j 0 < targets) (mul-comm 4 i) (t .inside i h));
+      }
+
+module _ (ids ends : List ℕ) (named : NamesLent ids ends) (k : Counters) (each : length (k .placements) ≡ length ends) (first second width : ℕ) (entries : List ℕ) where
+  answer-named : (a : FragmentAnswer) → AnswerPostable a first second width entries k → AnswerLent ids ends entries width a
+  answer-named (fragments.Refused n) p = tt
+  answer-named (fragments.Single m) p = entries-lent ids ends named (length (k .placements)) each entries (m .groups) (p .first-postable .targeted)
+  answer-named (fragments.Paired m) p = (
+    entries-lent ids ends named (length (k .placements)) each entries (m .first .groups) (p .first-postable .targeted),
+    entries-lent ids ends named (length (k .placements)) each (drop width entries) (m .second .groups) (p .second-postable refl .targeted),
+    p .within,
+  )
+
+-- ---- the room of its lines
+
+-- the first of two reads has no more groups than its share
+abbrev pub FirstFew : ℕ → FragmentAnswer → Type 0
+FirstFew share (fragments.Refused n) = Unit {0}
+FirstFew share (fragments.Single m) = Unit {0}
+FirstFew share (fragments.Paired m) = m .first .groups ≤ share
+
+-- the entries have 256 groups, however they are shared
+answer-room : (ids ends entries : List ℕ) (share : ℕ) → length entries ≡ 4 * streamEntries → (a : FragmentAnswer) → AnswerLent ids ends entries (4 * share) a → FirstFew share a → answerRoom a ≤ stepRoom
+answer-room ids ends entries share whole (fragments.Refused n) l f = omega arith
+answer-room ids ends entries share whole (fragments.Single m) l f = omega (arith, whole, l .listed)
+answer-room ids ends entries share whole (fragments.Paired m) l f = omega (arith, whole, f, l .1 .listed, l .2, length-drop (4 * share) entries)
+
+module _ (offset : ℕ) (s : Settings) (ss : List (List ℕ)) (way : Way) (share : ℕ) where
+  -- a read has no more than its share
+  mate-few : (r : MateRead) → mateRoom offset s ss share r ≡ 0 → mateRow offset s ss way r .groups ≤ share
+  mate-few r z = omega (arith, sight-listed s ss (sightOf offset s r) way, listed-room share (s .limit) (mateGroups offset s ss r) z)
+
+  first-few : (reads : List MateRead) (x : Row) (xs : List Row) → map (mateRow offset s ss way) reads ≡ x ∷ xs → firstOf (mateRoom offset s ss share) reads ≡ 0 → x .groups ≤ share
+  first-few [] x xs e z = absurd (omega (arith, ap length e))
+  first-few (r ∷ rs) x xs e z = subst (λ (y : Row). y .groups ≤ share) (head-eq-of-cons-eq e) (mate-few r (none-first (mateRoom offset s ss share r) (firstOf (mateRoom offset s ss share) rs) z))
+
+-- ---- a fragment whose reads stand in bytes
+
+module _ (bases baseEnds ranked ks rs os ids ends bytes : List ℕ) (head : FragmentHead) (h : Held) (entries out : List ℕ) (at : ℕ)
+    (lent : TellLent bases baseEnds ranked ks rs os ids ends bytes head (h .state .settings) (h .counters) entries out at) (share : ℕ) (shared : share ≡ shareOf (h .state .settings .mode) (entryCount entries))
+    (entries′ : List ℕ) where
+  abbrev ss : List (List ℕ)
+  ss = rankedSequences bases baseEnds ranked
+
+  abbrev first : ℕ
+  first = roleNumber (head .first .role)
+
+  abbrev second : ℕ
+  second = roleNumber (head .second .role)
+
+  abbrev Seen : FragmentAnswer → Type 0
+  Seen r = TestedObserved auditOffset ss (byIndex auditSeed) ranked h (fragmentAt bytes head) r entries entries′
+
+  accepted-lent : (r : FragmentAnswer) → Seen r → OneOf (1 ∷ 2 ∷ []) (tagOf the-type r) → AnswerLent ids ends entries′ (4 * share) r
+  accepted-lent r seen tag =
+      answer-named ids ends (lent .named) (h .counters) (lent .each) first second (4 * share) entries′ r
+      (raisable auditOffset ss (byIndex auditSeed) ranked h (head .ordinal) (head .count) (mateAt bytes (head .first)) (mateAt bytes (head .second)) entries entries′ r seen tag
+      (lent .tested .limit) (lent .tested .counters) (lent .tested .places) (sym (length-map ranked (λ p. getD (cut baseEnds bases) p []))) share shared .postable)
+
+  -- its groups stand in the entries
+  pub answer-lent : (r : FragmentAnswer) → Seen r → AnswerLent ids ends entries′ (4 * share) r
+  answer-lent (fragments.Refused n) seen = tt
+  answer-lent (fragments.Single m) seen = accepted-lent (fragments.Single m) seen (hit (1 ∷ 2 ∷ []) 1 tt)
+  answer-lent (fragments.Paired m) seen = accepted-lent (fragments.Paired m) seen (hit (1 ∷ 2 ∷ []) 2 tt)
+
+  few : (r : FragmentAnswer) → Seen r → FirstFew share r
+  few (fragments.Refused n) seen = tt
+  few (fragments.Single m) seen = tt
+  few (fragments.Paired m) seen =
+      let o = outcome-accepted _ (testedRows auditOffset ss (byIndex auditSeed) ranked h (fragmentAt bytes head)) (mappingRow (m .first) ∷ mappingRow (m .second) ∷ []) (sym (seen .answer)) in
+      let z = tested-checked auditOffset ss (byIndex auditSeed) ranked h (fragmentAt bytes head) (entryCount entries) (o .0) .rooms in
+      first-few auditOffset (h .state .settings) ss (byIndex auditSeed) share (fragmentAt bytes head .reads) (mappingRow (m .first)) (mappingRow (m .second) ∷ []) (o .1) (rw shared z)
+
+  module _ (same : length entries′ ≡ length entries) (r : FragmentAnswer) (seen : Seen r) where
+    -- its lines have room
+    pub answer-short : answerRoom r ≤ stepRoom
+    answer-short = answer-room ids ends entries′ share (same ∙ lent .whole) r (answer-lent r seen) (few r seen)
+
+    abbrev Written : ℕ → ℕ → List ℕ → ℕ → Type 0
+    Written room width out′ end = AddsAtMost room (answerLines (cut ends ids) (head .ordinal) first second width r entries′) out at out′ end
+
+    -- and are written for parts of a stream's entries
+    pub answer-written : (out′ : List ℕ) (end : ℕ) → Written (answerRoom r) (4 * share) out′ end → Written stepRoom (4 * shareOf (h .state .settings .mode) streamEntries) out′ end
+    answer-written out′ end a =
+        subst (λ w. Written stepRoom (4 * w) out′ end) (shared ∙ ap (λ n. shareOf (h .state .settings .mode) (n / 4)) (lent .whole))
+        (roomier (answerRoom r) stepRoom _ out at out′ end answer-short a)
