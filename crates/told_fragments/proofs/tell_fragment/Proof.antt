@@ -13,7 +13,7 @@ share-of-requires : tie.Need-share-of-requires
 share-of-requires c κs = search needs
 
 mul-width : tie.Need-mul-width
-mul-width c = 
+mul-width c =
     let s = c .before .before .before .before .before .before .before .before .before .before .before .before .before .before .before .before .before .before in
     omega (arith, s .pre .whole, known-within (s .args .state .settings .mode) (entryCount (s .args .entries .now)) (c .share-of .result) (c .share-of .ensures))
 
@@ -57,7 +57,7 @@ audit-tested-requires : tie.Need-audit-tested-requires
 audit-tested-requires c κs = search needs
 
 put-answer-requires : tie.Need-put-answer-requires
-put-answer-requires c κs = 
+put-answer-requires c κs =
     let s = c .before .before .before .before .before .before .before .before .before .before .before .before .before .before .before .before .before .before .before .before .before .before .before .before .before .before .before .before .before .before .before .before .before .before .before .before .before in
     let a = s .args in
     let t = c .before .before .before .before .before .before .before .before .before .before .audit-tested in
@@ -79,7 +79,7 @@ same-length-5 : tie.Need-same-length-5
 same-length-5 c = search needs
 
 returns : tie.Need-returns
-returns c = 
+returns c =
     let s = c .before .before .before .before .before .before .before .before .before .before .before .before .before .before .before .before .before .before .before .before .before .before .before .before .before .before .before .before .before .before .before .before .before .before .before .before .before .before .before .before in
     let a = s .args in
     let t = c .before .before .before .before .before .before .before .before .before .before .before .before .before .audit-tested in
