@@ -58,6 +58,7 @@ pub fn tell_fragment(
     let d = second.from;
     let e = second.middle;
     let f = second.end;
+    let ordinal = head.ordinal;
     let first_role = first.role;
     let second_role = second.role;
     let settings = state.settings;
@@ -82,7 +83,7 @@ pub fn tell_fragment(
         first.present,
         second_role,
         second.present,
-        head.ordinal,
+        ordinal,
         head.count,
         true,
         SEED,
@@ -97,7 +98,7 @@ pub fn tell_fragment(
         identifier_ends,
         entries,
         width,
-        head.ordinal,
+        ordinal,
         first_role,
         second_role,
         answer,

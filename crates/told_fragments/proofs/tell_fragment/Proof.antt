@@ -54,7 +54,7 @@ part-audit-tested-end-4 : tie.Need-part-audit-tested-end-4
 part-audit-tested-end-4 c = search needs
 
 audit-tested-requires : tie.Need-audit-tested-requires
-audit-tested-requires c κs = search needs
+audit-tested-requires c κs = c .before .before .before .before .before .before .before .before .before .before .before .before .before .before .before .before .before .before .before .before .before .before .before .before .before .before .pre .tested
 
 put-answer-requires : tie.Need-put-answer-requires
 put-answer-requires c κs =
