@@ -7,8 +7,8 @@ use Prim.Native.Nat.{ℕ, zero, suc}
 use native.Mathlib.Omega.{arith}
 use lib.ListN.{length}
 use borrow.Author.Tests.{not-true, not-false}
-use Rattle.promises.specs.Refusal.{unless, _orElse_}
-use Rattle.promises.proofs.Refusing.{first-stands, outcome-accepted, outcome-number}
+use Rattle.promises.specs.Refusal.{unless, _orElse_, outcome}
+use Rattle.promises.proofs.Refusing.{stands, outcome-refused, outcome-accepted, outcome-number}
 use Rattle.catalogue.specs.Catalogue.{Catalogue, mapped}
 use Rattle.catalogue.specs.Ranking.{rankingOutcome}
 use Rattle.catalogue.specs.declared.ranks.Ranking.{Ranking}
@@ -17,61 +17,74 @@ use Rattle.ledger.specs.Booking.{countersOf}
 use Rattle.audit_rules.specs.declared.settings.AuditState.{AuditState}
 use Rattle.audit_rules.specs.declared.sheet.Sheet.{Sheet}
 use Rattle.audit_rules.specs.declared.calls.CallAnswer.the-variants as calls
-use Rattle.audit_rules.specs.Settings.{zeroState}
+use Rattle.audit_rules.specs.declared.calls.Finish.{Finish}
+use Rattle.audit_rules.specs.Settings.{Held, zeroState}
 use Rattle.audit_rules.specs.Opening.{IndexLent, openingRefusal}
-use Rattle.audit_rules.specs.Sheet.{sheetOf, finishRefusal}
-use Rattle.audit_rules.specs.Calls.{heldOf, zeroSheet, Finishes}
+use Rattle.audit_rules.specs.Sheet.{sheetOf, booksRefusal, finishRefusal}
+use Rattle.audit_rules.specs.Calls.{heldOf, zeroSheet, sheetAfter, callOutcome, Finishes}
 use Rattle.opening.specs.Opens.{OpeningRanked}
 use Rattle.sheets.specs.Agreeing.{booksAgree}
+use Rattle.finishing.specs.Tested.{FinishesTested}
 
-module _ (q offset : ℕ) (c : Catalogue) (lent : IndexLent) (state : AuditState) (ps ss ms : List ℕ) where
-  -- the refusal of the opening's checks, whether the books agree, and the refusal of the finish
-  abbrev checks : ℕ
-  checks = openingRefusal q offset c lent (state .settings) (countersOf ps ss ms)
+-- ---- a refusal
+
+-- is told by its number
+number-told : (m n : ℕ) → m ≡ n → (n ≡ 0 → ⊥) → callOutcome (calls.Refused n) ≡ outcome m tt
+number-told m n e ne = rw e (outcome-refused n tt ne)
+
+-- beside the sheet of the all-zero state
+none-shown : (m n : ℕ) → m ≡ n → (n ≡ 0 → ⊥) → (h : Held) (empty : AuditState) → empty ≡ zeroState → (sheet : Sheet) → sheet ≡ sheetOf (heldOf empty [] [] []) → sheet ≡ sheetAfter m h
+none-shown m n e ne h empty is-empty sheet of-empty = of-empty ∙ ap (λ s. sheetOf (heldOf s [] [] [])) is-empty ∙ rw e (go n ne)
+  where
+    go : (n : ℕ) → (n ≡ 0 → ⊥) → zeroSheet ≡ sheetAfter n h
+    go zero z = absurd (z refl)
+    go (suc n) z = refl
+
+module _ (state : AuditState) (ps ss ms : List ℕ) where
+  -- ---- behind the checks
 
   abbrev agreed : Bool
   agreed = booksAgree (state .settings .mode) (state .settings .remap) (state .ledger) ps ss ms
 
-  abbrev refusal : ℕ
-  refusal = finishRefusal q offset c lent (heldOf state ps ss ms)
-
-  -- the books are tested behind the checks
-  refusal-is : refusal ≡ (checks orElse unless agreed 18)
-  unfolding finishRefusal
-  refusal-is = refl
-
-  refusal-behind : (b : Bool) → checks ≡ 0 → agreed ≡ b → refusal ≡ unless b 18
-  refusal-behind b none e = refusal-is ∙ rw (none, e)
-
-  -- a refusal is told by its number, beside the sheet of nothing
-  refused-with : (n : ℕ) → (n ≡ 0 → ⊥) → refusal ≡ n → (sheet : Sheet) → sheet ≡ zeroSheet
-      → Finishes q offset c lent (heldOf state ps ss ms) (record { answer = calls.Refused n; sheet = sheet })
-  refused-with zero ne e sheet z = absurd (ne refl)
-  refused-with (suc n) ne e sheet z = record { answer = rw e; sheet = rw e z }
-
-  module _ (r : Ranking) (buffer : List ℕ) (h : OpeningRanked q offset c lent (state .settings) (countersOf ps ss ms) r buffer) where
-    -- beside every refusal stands the sheet of the all-zero state
-    module _ (empty : AuditState) (is-empty : empty ≡ zeroState) (nothing : Sheet) (of-empty : nothing ≡ sheetOf (heldOf empty [] [] [])) where
-      of-zero : nothing ≡ zeroSheet
-      of-zero = of-empty ∙ ap (λ s. sheetOf (heldOf s [] [] [])) is-empty
-
-      -- refused by the checks
-      pub finish-refused : (n : ℕ) → r ≡ Refused n → Finishes q offset c lent (heldOf state ps ss ms) (record { answer = calls.Refused n; sheet = nothing })
-      finish-refused n told =
-          let w = outcome-number checks n (length (mapped c)) (sym (h .answer) ∙ ap rankingOutcome told) in
-          refused-with n (w .1) (refusal-is ∙ sym (first-stands checks (unless agreed 18) (rw (w .0) (w .1))) ∙ w .0) nothing of-zero
-
-      -- refused by the books: b is what their test answered, and the code tests that it is false
-      pub finish-unbalanced : (k : ℕ) → r ≡ Ranked k → (b : Bool) → b ≡ agreed → (test : Bool) → test ≡ true → test ≡ not b → (n : ℕ) → n ≡ 18
-          → Finishes q offset c lent (heldOf state ps ss ms) (record { answer = calls.Refused n; sheet = nothing })
-      finish-unbalanced k told b answered test taken tells n number =
-          let w = outcome-accepted checks (length (mapped c)) k (sym (h .answer) ∙ ap rankingOutcome told) in
-          refused-with n (λ z. omega arith) (refusal-behind false (w .0) (sym answered ∙ not-true b (sym tells ∙ taken)) ∙ sym number) nothing of-zero
+  -- b is what the test of the books answered, and the code tests that it is false
+  module _ (b : Bool) (answered : b ≡ agreed) (test : Bool) (tells : test ≡ not b) where
+    -- refused by the books
+    pub tested-unbalanced : test ≡ true → (n : ℕ) → n ≡ 18 → (empty : AuditState) → empty ≡ zeroState → (nothing : Sheet) → nothing ≡ sheetOf (heldOf empty [] [] [])
+        → FinishesTested (heldOf state ps ss ms) (record { answer = calls.Refused n; sheet = nothing })
+    tested-unbalanced taken n number empty is-empty nothing of-empty =
+        let e : booksRefusal (heldOf state ps ss ms) ≡ n = ap (λ t. unless t 18) (sym answered ∙ not-true b (sym tells ∙ taken)) ∙ sym number in
+        let ne : n ≡ 0 → ⊥ = λ z. omega arith in
+        record { answer = number-told _ n e ne; sheet = none-shown _ n e ne (heldOf state ps ss ms) empty is-empty nothing of-empty }
 
     -- accepted, with the sheet of the state: a sheet reads no counters
-    pub finish-done : (k : ℕ) → r ≡ Ranked k → (b : Bool) → b ≡ agreed → (test : Bool) → test ≡ false → test ≡ not b → (sheet : Sheet) → sheet ≡ sheetOf (heldOf state [] [] [])
-        → Finishes q offset c lent (heldOf state ps ss ms) (record { answer = calls.Accepted; sheet = sheet })
-    finish-done k told b answered test left tells sheet shown =
-        let w = outcome-accepted checks (length (mapped c)) k (sym (h .answer) ∙ ap rankingOutcome told) in
-        let none = refusal-behind true (w .0) (sym answered ∙ not-false b (sym tells ∙ left)) in
-        record { answer = rw none; sheet = rw none shown }
+    pub tested-done : test ≡ false → (sheet : Sheet) → sheet ≡ sheetOf (heldOf state [] [] []) → FinishesTested (heldOf state ps ss ms) (record { answer = calls.Accepted; sheet = sheet })
+    tested-done left sheet shown =
+        let e : booksRefusal (heldOf state ps ss ms) ≡ 0 = ap (λ t. unless t 18) (sym answered ∙ not-false b (sym tells ∙ left)) in
+        record { answer = rw e; sheet = rw e shown }
+
+  -- ---- the checks
+
+  module _ (q offset : ℕ) (c : Catalogue) (lent : IndexLent) where
+    abbrev checks : ℕ
+    checks = openingRefusal q offset c lent (state .settings) (countersOf ps ss ms)
+
+    -- the books are tested behind them
+    refusal-is : finishRefusal q offset c lent (heldOf state ps ss ms) ≡ (checks orElse booksRefusal (heldOf state ps ss ms))
+    unfolding finishRefusal
+    refusal-is = refl
+
+    module _ (r : Ranking) (buffer : List ℕ) (h : OpeningRanked q offset c lent (state .settings) (countersOf ps ss ms) r buffer) where
+      -- refused by the checks
+      pub finish-refused : (n : ℕ) → r ≡ Refused n → (empty : AuditState) → empty ≡ zeroState → (nothing : Sheet) → nothing ≡ sheetOf (heldOf empty [] [] [])
+          → Finishes q offset c lent (heldOf state ps ss ms) (record { answer = calls.Refused n; sheet = nothing })
+      finish-refused n told empty is-empty nothing of-empty =
+          let w = outcome-number checks n (length (mapped c)) (sym (h .answer) ∙ ap rankingOutcome told) in
+          let e = refusal-is ∙ stands n checks (booksRefusal (heldOf state ps ss ms)) (w .1) (w .0) in
+          record { answer = number-told _ n e (w .1); sheet = none-shown _ n e (w .1) (heldOf state ps ss ms) empty is-empty nothing of-empty }
+
+      -- passed: the answer is that behind the checks
+      pub finish-behind : (k : ℕ) → r ≡ Ranked k → (f : Finish) → FinishesTested (heldOf state ps ss ms) f → Finishes q offset c lent (heldOf state ps ss ms) f
+      finish-behind k told f t =
+          let w = outcome-accepted checks (length (mapped c)) k (sym (h .answer) ∙ ap rankingOutcome told) in
+          let e : finishRefusal q offset c lent (heldOf state ps ss ms) ≡ booksRefusal (heldOf state ps ss ms) = refusal-is ∙ ap (λ m. m orElse booksRefusal (heldOf state ps ss ms)) (w .0) in
+          record { answer = rw e (t .answer); sheet = rw e (t .sheet) }
