@@ -96,12 +96,14 @@ fn run_fragment(
             );
             let audit = told.audit;
             let answer = audit.answer;
+            let booked = audit.state;
+            let progress = progress_of(answer, n);
             RunStep {
                 advance: Advance {
                     at: told.end,
-                    progress: progress_of(answer, n),
+                    progress,
                 },
-                state: audit.state,
+                state: booked,
             }
         }
     }

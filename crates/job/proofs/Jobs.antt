@@ -1,0 +1,215 @@
+-- Each step of a job: the stage that it comes to, and what is kept.
+-- Assumes nothing.
+use mathlib.Core.Path.{_≡_, refl, sym, ap, subst, subst₂, _∙_}
+use mathlib.Core.Bool.{Bool}
+use mathlib.Core.List.{List, [], _∷_}
+use Prim.Native.Nat.{ℕ, zero, suc, _+_, _-_, _*_, _≤_, _<_}
+use native.Mathlib.Omega.{arith}
+use lib.ListN.{length, getD, take, drop, replicate, length-map, length-take}
+use lib.Seq.{length-take-le, take-length}
+use Rattle.lists.proofs.Cut.{length-cut}
+use Rattle.catalogue.specs.Catalogue.{Catalogue, names, sequences, targets, targetsFrom}
+use Rattle.index.specs.Index.{index}
+use Rattle.ledger.specs.Booking.{Counters, countersOf, emptyCounters}
+use Rattle.audit_rules.specs.declared.settings.AuditState.{AuditState}
+use Rattle.audit_rules.specs.declared.settings.Settings.{Settings}
+use Rattle.audit_rules.specs.Settings.{Held, auditSeed}
+use Rattle.audit_rules.specs.Opening.{columns, started}
+use Rattle.audit_rules.specs.Calls.{heldOf}
+use Rattle.stream.specs.Commands.{maxStreamTargets}
+use Rattle.supplies.specs.declared.Supply.{Supply}
+use Rattle.supplies.specs.Supplied.{suppliedIn}
+use Rattle.catch_rules.specs.Job.{noTargets, streamEntries, Stage, beginning, supplying, running}
+use Rattle.catch_rules.proofs.Steps.{none-left}
+use Rattle.job_opening.specs.Opened.{JobRoom}
+use Rattle.advances.specs.declared.Advance.{Advance}
+use Rattle.advances.specs.Advancing.{Advances, Stays}
+use Rattle.advances.proofs.Advancing.{stays}
+use Rattle.supplying.specs.declared.Begun.{Begun}
+use Rattle.supplying.specs.declared.Begun.the-variants as begun
+use Rattle.supplying.specs.declared.Supplied.{Supplied}
+use Rattle.supplying.specs.declared.Opened.{Opened}
+use Rattle.supplying.specs.declared.Opened.the-variants as opened
+use Rattle.supplying.specs.Supplying.{Begins, SupplyKept, SupplyTold, OpensAt}
+use Rattle.running.specs.declared.RunStep.{RunStep}
+use Rattle.running.specs.Running.{Passes, Runs, Ran}
+use Rattle.job.specs.declared.JobStage.{JobStage}
+use Rattle.job.specs.declared.JobStage.the-variants as stages
+use Rattle.job.specs.declared.Job.{Job}
+use Rattle.job.specs.declared.Advanced.{Advanced}
+use Rattle.job.specs.Jobs.{begunJob, openedJob, Buffers, buffersOf, suppliedOf, heldBy, stageAt, stageOf, KeptAt, JobKept, JobAdvances}
+
+targets-count : (k : ℕ) (ns ss : List (List ℕ)) (ms : List ℕ) → length ss ≡ length ns → length ms ≡ length ns → length (targetsFrom k ns ss ms) ≡ length ms
+targets-count k [] ss [] e f = refl
+targets-count k [] ss (m ∷ ms) e f = absurd (omega arith)
+targets-count k (n ∷ ns) [] ms e f = absurd (omega arith)
+targets-count k (n ∷ ns) (s ∷ ss) [] e f = absurd (omega arith)
+targets-count k (n ∷ ns) (s ∷ ss) (m ∷ ms) e f = ap suc (targets-count (suc k) ns ss ms (omega arith) (omega arith))
+
+take-zeros : (n m : ℕ) → n ≤ m → take n (replicate {A = ℕ} m 0) ≡ replicate n 0
+take-zeros zero m h = refl
+take-zeros (suc n) zero h = absurd (omega arith)
+take-zeros (suc n) (suc m) h = ap (λ l. 0 ∷ l) (take-zeros n m (omega arith))
+
+-- ---- a code, and what stands behind it
+
+pub code-first : (bytes : List ℕ) → 1 ≤ length bytes → getD bytes 0 0 ∷ take (length bytes - 1) (drop 1 bytes) ≡ bytes
+code-first [] h = absurd (omega arith)
+code-first (b ∷ bs) h =
+    let e : length (b ∷ bs) - 1 ≡ length bs = omega arith in
+    ap (λ l. b ∷ l) (ap (λ n. take n bs) e ∙ take-length bs)
+
+-- ---- no byte
+
+module _ (j : Job) (b : Buffers) (kept : JobKept j b) (ended : Bool) (out : List ℕ) (at : ℕ) (out′ : List ℕ) where
+  pub nothing-there : (bytes : List ℕ) → length bytes ≡ 0 → (a : Advance) → Stays ended out at out′ a → JobAdvances ended j b bytes out at out′ (record { job = j; advance = a }) b
+  nothing-there [] e a s = record { advances = stays (stageOf j b) [] out at out′ a (omega arith) ended s (none-left (stageOf j b)); kept = kept }
+  nothing-there (x ∷ xs) e a s = absurd (omega arith)
+
+  -- ---- 01
+
+  module _ (first : j .stage ≡ stages.Beginning) (bytes : List ℕ) where
+    at-beginning : stageOf j b ≡ beginning
+    at-beginning = ap (λ s. stageAt s (suppliedOf j b) (heldBy j b)) first
+
+    -- no target, nothing booked
+    unread : KeptAt stages.Beginning j b
+    unread = subst (λ s. KeptAt s j b) first (kept .at-stage)
+
+    pub begins : (r : Begun) → Begins ended bytes out at out′ r → JobAdvances ended j b bytes out at out′ (begunJob at j r) b
+    begins (begun.Stopped a) t = record { advances = subst (λ s. Advances ended s bytes out at out′ a s) (sym at-beginning) t; kept = kept }
+    begins (begun.Read s) t =
+        record {
+          advances = rw (at-beginning, unread .0) t;
+          kept = record { supply = kept .supply; ranked = kept .ranked; keys = kept .keys; ranks = kept .ranks; positions = kept .positions; placements = kept .placements; singles = kept .singles; multi = kept .multi; at-stage = (refl, unread .1) };
+        }
+
+  -- ---- 02
+
+  module _ (second : j .stage ≡ stages.Supplying) (bytes : List ℕ) where
+    abbrev s : Settings
+    s = j .state .settings
+
+    at-supplying : stageOf j b ≡ supplying s (suppliedOf j b)
+    at-supplying = ap (λ x. stageAt x (suppliedOf j b) (heldBy j b)) second
+
+    unbooked : KeptAt stages.Supplying j b
+    unbooked = subst (λ x. KeptAt x j b) second (kept .at-stage)
+
+    pub supplies : (r : Supplied) (is ies bs bes ms : List ℕ) → SupplyKept (r .supply) is ies bs bes ms
+        → SupplyTold ended (suppliedOf j b) bytes out at out′ r (suppliedIn (r .supply) is ies bs bes ms)
+        → JobAdvances ended j b bytes out at out′ (record { job = record { stage = j .stage; supply = r .supply; indexed = j .indexed; state = j .state }; advance = r .advance })
+            (buffersOf is ies bs bes ms (b .ranked) (b .keys) (b .ranks) (b .positions) (b .placements) (b .singles) (b .multi))
+    supplies r is ies bs bes ms room t =
+        record {
+          advances = rw second (t s);
+          kept = record { supply = room; ranked = kept .ranked; keys = kept .keys; ranks = kept .ranks; positions = kept .positions; placements = kept .placements; singles = kept .singles; multi = kept .multi; at-stage = rw second unbooked };
+        }
+
+    -- ---- the opening
+
+    abbrev c : Catalogue
+    c = suppliedOf j b
+
+    abbrev n : ℕ
+    n = j .supply .targets
+
+    pub open-room : JobRoom (b .ranked) (b .keys) (b .ranks) (b .positions) (c .bases)
+    open-room =
+        let l = length-take-le (j .supply .bases) (b .bases) (omega (arith, kept .supply .bases, kept .supply .sequences)) in
+        record { places = kept .ranked; keys = omega (arith, l, kept .supply .bases, kept .keys); ranks = omega (arith, l, kept .supply .bases, kept .ranks); positions = omega (arith, l, kept .supply .bases, kept .positions) }
+
+    count-is : length (targets c) ≡ n
+    count-is =
+        let a = length-cut 0 (c .identifierEnds) (c .identifiers) in
+        let d = length-cut 0 (c .baseEnds) (c .bases) in
+        let e = length-take-le n (b .identifierEnds) (omega (arith, kept .supply .targets, kept .supply .identifierEnds)) in
+        let f = length-take-le n (b .baseEnds) (omega (arith, kept .supply .targets, kept .supply .baseEnds)) in
+        let g = length-take-le n (b .marks) (omega (arith, kept .supply .targets, kept .supply .marks)) in
+        targets-count 0 (names c) (sequences c) (c .marks) (omega (arith, a, d, e, f)) (omega (arith, a, e, g)) ∙ g
+
+    -- nothing is booked
+    pub counters-started : countersOf (take n (b .placements)) (take n (b .singles)) (take n (b .multi)) ≡ started c s .counters
+    counters-started = λ i. record { placements = front (b .placements) (ap (λ k. k .placements) (unbooked .1)) i; singles = front (b .singles) (ap (λ k. k .singles) (unbooked .1)) i; multi = front (b .multi) (ap (λ k. k .multi) (unbooked .1)) i }
+      where
+        front : (l : List ℕ) → l ≡ replicate maxStreamTargets 0 → take n l ≡ replicate (length (targets c)) 0
+        front l e = ap (take n) e ∙ take-zeros n maxStreamTargets (kept .supply .targets) ∙ ap (λ m. replicate m 0) (sym count-is)
+
+    held-started : heldBy j b ≡ started c s
+    held-started = λ i. record { state = unbooked .0 i; counters = counters-started i }
+
+    pub opens : (code : ℕ) (r : Opened) (ranked ks rs os : List ℕ) → OpensAt code c s (countersOf (take n (b .placements)) (take n (b .singles)) (take n (b .multi))) out at out′ r ranked ks rs os
+        → length ranked ≡ length (b .ranked) → length ks ≡ length (b .keys) → length rs ≡ length (b .ranks) → length os ≡ length (b .positions)
+        → JobAdvances ended j b (code ∷ bytes) out at out′ (openedJob at j r) (buffersOf (b .identifiers) (b .identifierEnds) (b .bases) (b .baseEnds) (b .marks) ranked ks rs os (b .placements) (b .singles) (b .multi))
+    opens code (opened.Stopped a) ranked ks rs os t e f g i =
+        record {
+          advances = rw second (t counters-started ended bytes);
+          kept = record { supply = kept .supply; ranked = e ∙ kept .ranked; keys = f ∙ kept .keys; ranks = g ∙ kept .ranks; positions = i ∙ kept .positions; placements = kept .placements; singles = kept .singles; multi = kept .multi; at-stage = rw second unbooked };
+        }
+    opens code (opened.Indexed x) ranked ks rs os t e f g i =
+        let w = t counters-started ended bytes in
+        record {
+          advances = rw (second, held-started) (w .0);
+          kept = record { supply = kept .supply; ranked = e ∙ kept .ranked; keys = f ∙ kept .keys; ranks = g ∙ kept .ranks; positions = i ∙ kept .positions; placements = kept .placements; singles = kept .singles; multi = kept .multi; at-stage = (subst (Passes c) (sym held-started) (w .2), w .1) };
+        }
+
+  -- ---- 03 and 05
+
+  module _ (third : j .stage ≡ stages.Running) where
+    abbrev d : Catalogue
+    d = suppliedOf j b
+
+    abbrev held : Held
+    held = heldBy j b
+
+    opened-before : KeptAt stages.Running j b
+    opened-before = subst (λ x. KeptAt x j b) third (kept .at-stage)
+
+    -- what a step of the run is lent
+    pub lends : (entries : List ℕ) → length entries ≡ 4 * streamEntries
+        → Runs d (take (j .indexed .ranked) (b .ranked)) (take (j .indexed .postings) (b .keys)) (take (j .indexed .postings) (b .ranks)) (take (j .indexed .postings) (b .positions)) held entries
+    lends entries e =
+        let w = opened-before in
+        record {
+          passes = w .0;
+          few = omega (arith, kept .supply .targets, length-take-le (j .supply .targets) (b .identifierEnds) (omega (arith, kept .supply .targets, kept .supply .identifierEnds)));
+          places = w .1 .places;
+          index = λ i. columns (w .1 .keys i) (w .1 .ranks i) (w .1 .positions i);
+          whole = e;
+        }
+
+    -- a front that is as long as it is counted lies within its list
+    within : (m : ℕ) (l front : List ℕ) → take m l ≡ front → m ≡ length front → m ≤ length l
+    within m l front e f = omega (arith, length-take m l, ap length e)
+
+    pub ranks-within : j .indexed .ranked ≤ length (b .ranked)
+    ranks-within = within (j .indexed .ranked) (b .ranked) _ (opened-before .1 .places) (opened-before .1 .several)
+
+    pub keys-within : j .indexed .postings ≤ length (b .keys)
+    keys-within = within (j .indexed .postings) (b .keys) _ (opened-before .1 .keys) (opened-before .1 .many ∙ sym (length-map (index auditSeed d) _))
+
+    pub postings-within : (j .indexed .postings ≤ length (b .keys)) × (j .indexed .postings ≤ length (b .ranks)) × (j .indexed .postings ≤ length (b .positions))
+    postings-within = (keys-within, omega (arith, keys-within, kept .keys, kept .ranks), omega (arith, keys-within, kept .keys, kept .positions))
+
+    -- a step of the run
+    pub runs : (bytes : List ℕ) (r : RunStep) (ps ss ms ps′ ss′ ms′ : List ℕ) → Ran ended d held bytes out at out′ r (countersOf ps ss ms)
+        → take (j .supply .targets) ps′ ≡ ps → take (j .supply .targets) ss′ ≡ ss → take (j .supply .targets) ms′ ≡ ms
+        → length ps′ ≡ length (b .placements) → length ss′ ≡ length (b .singles) → length ms′ ≡ length (b .multi)
+        → JobAdvances ended j b bytes out at out′ (record { job = record { stage = j .stage; supply = j .supply; indexed = j .indexed; state = r .state }; advance = r .advance })
+            (buffersOf (b .identifiers) (b .identifierEnds) (b .bases) (b .baseEnds) (b .marks) (b .ranked) (b .keys) (b .ranks) (b .positions) ps′ ss′ ms′)
+    runs bytes r ps ss ms ps′ ss′ ms′ ran e f g x y z =
+        record {
+          advances = rw (third, e, f, g) (ran .advances);
+          kept =
+              record {
+                supply = kept .supply;
+                ranked = kept .ranked;
+                keys = kept .keys;
+                ranks = kept .ranks;
+                positions = kept .positions;
+                placements = x ∙ kept .placements;
+                singles = y ∙ kept .singles;
+                multi = z ∙ kept .multi;
+                at-stage = rw third (rw (e, f, g) (ran .still-passes), opened-before .1);
+              };
+        }

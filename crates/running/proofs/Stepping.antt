@@ -1,0 +1,132 @@
+-- Each step of a job that was opened, as its function has it.
+-- Assumes nothing.
+use mathlib.Core.Path.{_≡_, refl, sym, ap, subst, subst₂, _∙_}
+use mathlib.Core.Bool.{Bool, true, false}
+use mathlib.Core.List.{List, [], _∷_}
+use Prim.Native.Nat.{ℕ, suc, _+_, _≤_, _<_}
+use native.Mathlib.Omega.{arith}
+use lib.ListN.{length, drop}
+use Rattle.promises.specs.Refusal.{accepted}
+use Rattle.catalogue.specs.Catalogue.{Catalogue, names}
+use Rattle.index.specs.Index.{rankedSequences}
+use Rattle.answers.specs.Answer.{Row}
+use Rattle.ledger.specs.Booking.{Counters}
+use Rattle.audit_rules.specs.declared.calls.FragmentAnswer.{FragmentAnswer}
+use Rattle.audit_rules.specs.declared.calls.FragmentAnswer.the-variants as fragments
+use Rattle.audit_rules.specs.Settings.{Held, auditSeed, auditOffset}
+use Rattle.audit_rules.specs.Calls.{fragmentOutcome, mappingRow, Audits}
+use Rattle.stream.specs.Commands.{fragmentIn}
+use Rattle.stream.specs.Telling.{Refused, Short}
+use Rattle.texts.specs.Writing.{AddsAtMost}
+use Rattle.lines.specs.Lines.{refusalLine}
+use Rattle.sheet_lines.specs.Lent.{sheetRoom}
+use Rattle.fragment_stream.specs.declared.FragmentHead.{FragmentHead}
+use Rattle.fragment_stream.specs.declared.FragmentRead.the-variants as reads
+use Rattle.fragment_stream.specs.Telling.{longestFragment, FragmentTold}
+use Rattle.catch_rules.specs.Job.{lentOf, running, still}
+use Rattle.catch_rules.specs.Feeding.{Ends}
+use Rattle.catch_rules.proofs.Steps.{fragment-wrong, fragment-short, run-other, bytes-behind}
+use Rattle.advances.specs.declared.Advance.{Advance}
+use Rattle.advances.specs.declared.Progress.{Progress}
+use Rattle.advances.specs.declared.Progress.the-variants as progress
+use Rattle.advances.specs.Advancing as advancing
+use Rattle.advances.specs.Advancing.{stepRoom, Advances, Refuses, Waits, Stays}
+use Rattle.advances.proofs.Advancing.{ends-told, last-step, refuses, waits, stays}
+use Rattle.told_fragments.specs.declared.ToldFragment.{ToldFragment}
+use Rattle.told_fragments.specs.Told.{fragmentAt, TellLent, Tells}
+use Rattle.running.specs.Running.{progressOf, Passes, Runs, Ran}
+use Rattle.running.proofs.Passing.{named, each-counted, lent-tested, lent-audited}
+use Rattle.running.proofs.Running.{lines, fragment-refuses, fragment-goes}
+
+module _ (c : Catalogue) (ranked ks rs os : List ℕ) (h : Held) (entries : List ℕ) (lent : Runs c ranked ks rs os h entries) (ended : Bool) (bytes out : List ℕ) (at : ℕ) (out′ : List ℕ) where
+  -- ---- steps behind which nothing has changed
+
+  -- E and a number
+  ran-refused : (first : List ℕ) (number : ℕ) (a : Advance) → Refuses number out at out′ a → Ends (running c h) first (refusalLine number) → Ran ended c h first out at out′ (record { advance = a; state = h .state }) (h .counters)
+  ran-refused first number a f e = record { advances = refuses (running c h) (running c h) first out at out′ a ended number f e; still-passes = lent .passes }
+
+  pub fragment-wrong-ran : (a : Advance) → Refuses 20 out at out′ a → Refused fragmentIn bytes → Ran ended c h (3 ∷ bytes) out at out′ (record { advance = a; state = h .state }) (h .counters)
+  fragment-wrong-ran a f e = ran-refused (3 ∷ bytes) 20 a f (fragment-wrong c h bytes e)
+
+  pub fragment-short-ran : (a : Advance) → Stays ended out at out′ a → Short fragmentIn bytes longestFragment → Ran ended c h (3 ∷ bytes) out at out′ (record { advance = a; state = h .state }) (h .counters)
+  fragment-short-ran a s e =
+      record { advances = stays (running c h) (3 ∷ bytes) out at out′ a (omega (arith, e .few)) ended s (fragment-short c h bytes (e .ended)); still-passes = lent .passes }
+
+  -- neither 03 nor 05
+  pub other-ran : (code : ℕ) → (code ≡ 3 → ⊥) → (code ≡ 5 → ⊥) → (a : Advance) → Refuses 20 out at out′ a → Ran ended c h (code ∷ bytes) out at out′ (record { advance = a; state = h .state }) (h .counters)
+  other-ran code three five a f = ran-refused (code ∷ bytes) 20 a f (run-other c h bytes code three five)
+
+  -- 05 with bytes behind it
+  pub behind-ran : 0 < length bytes → (a : Advance) → Refuses 20 out at out′ a → Ran ended c h (5 ∷ bytes) out at out′ (record { advance = a; state = h .state }) (h .counters)
+  behind-ran some a f = ran-refused (5 ∷ bytes) 20 a f (go bytes some)
+    where
+      go : (bs : List ℕ) → 0 < length bs → Ends (running c h) (5 ∷ bs) (refusalLine 20)
+      go [] n = absurd (omega arith)
+      go (b ∷ bs) n = bytes-behind c h bs b
+
+  -- 05, and it is not known yet whether bytes are behind it
+  pub wait-ran : ended ≡ false → bytes ≡ [] → (a : Advance) → Waits at a → out′ ≡ out → Ran ended c h (5 ∷ bytes) out at out′ (record { advance = a; state = h .state }) (h .counters)
+  wait-ran e none a w same =
+      record {
+        advances = subst (λ b. Advances b (running c h) (5 ∷ bytes) out at out′ a (running c h)) (sym e) (waits (running c h) (5 ∷ bytes) out at out′ a (omega (arith, ap length none)) w same);
+        still-passes = lent .passes;
+      }
+
+  -- 05 and the end of the stream
+  pub finish-ran : ended ≡ true → bytes ≡ [] → (text : List ℕ) → text ≡ still (running c h) (5 ∷ []) → (end : ℕ) → AddsAtMost (sheetRoom (length (c .identifierEnds))) text out at out′ end
+      → Ran ended c h (5 ∷ bytes) out at out′ (record { advance = record { at = end; progress = progress.Ended }; state = h .state }) (h .counters)
+  finish-ran e none text is end adds =
+      let a : Advance = record { at = end; progress = progress.Ended } in
+      let told : Advances true (running c h) (5 ∷ []) out at out′ a (running c h) = last-step (running c h) (running c h) (5 ∷ []) out at out′ a true (sheetRoom (length (c .identifierEnds))) text (omega (arith, lent .few)) adds refl (sym is) in
+      record { advances = subst₂ (λ b bs. Advances b (running c h) (5 ∷ bs) out at out′ a (running c h)) (sym e) (sym none) told; still-passes = lent .passes }
+
+  -- ---- a fragment
+
+  module _ (head : FragmentHead) (read : FragmentTold bytes (reads.Read head)) where
+    pub tell-lent : at + stepRoom ≤ length out
+        → TellLent (c .bases) (c .baseEnds) ranked ks rs os (c .identifiers) (c .identifierEnds) bytes head (h .state .settings) (h .counters) entries out at
+    tell-lent room =
+        record {
+          tested = lent-tested c ranked ks rs os h entries lent;
+          named = named c h (lent .passes);
+          each = each-counted c h (lent .passes) .0;
+          first = read .1;
+          second = read .2;
+          whole = lent .whole;
+          room = room;
+        }
+
+    module _ (t : ToldFragment) (k : Counters) (entries′ : List ℕ) (tells : Tells (rankedSequences (c .bases) (c .baseEnds) ranked) ranked (names c) h bytes head t k entries entries′ out at out′) where
+      abbrev after : Held
+      after = record { state = t .audit .state; counters = k }
+
+      audits : Audits auditSeed auditOffset c (lentOf c) h (fragmentAt bytes head) entries (t .audit) k entries′
+      audits = lent-audited c ranked ks rs os h entries lent (fragmentAt bytes head) (t .audit) k entries′ (tells .audited)
+
+      abbrev text : List ℕ
+      text = lines c ranked ks rs os h entries lent bytes head (read .0) (t .audit) k entries′ audits
+
+      ran-accepted : (rows : List Row) → fragmentOutcome (t .audit .answer) ≡ accepted rows → (p : Progress) → p ≡ progress.Went (suc (head .end)) → Ran ended c h (3 ∷ bytes) out at out′ (record { advance = record { at = t .end; progress = p }; state = t .audit .state }) k
+      ran-accepted rows told p e =
+          let w = fragment-goes c ranked ks rs os h entries lent bytes head (read .0) (t .audit) k entries′ audits rows told in
+          record {
+            advances = record { text = text; adds = tells .adds; told = subst (λ x. advancing.Tells ended (running c h) (3 ∷ bytes) x text (running c after)) (sym e) (omega (arith, read .0 .within), w .0) };
+            still-passes = w .1;
+          }
+
+      pub fragment-ran : (n : ℕ) → n ≡ 1 + head .end → (p : Progress) → p ≡ progressOf (t .audit .answer) n → Ran ended c h (3 ∷ bytes) out at out′ (record { advance = record { at = t .end; progress = p }; state = t .audit .state }) k
+      fragment-ran n m p e = go (t .audit .answer) refl
+        where
+          size : n ≡ suc (head .end)
+          size = omega (arith, m)
+
+          go : (x : FragmentAnswer) → t .audit .answer ≡ x → Ran ended c h (3 ∷ bytes) out at out′ (record { advance = record { at = t .end; progress = p }; state = t .audit .state }) k
+          go (fragments.Single x) a = ran-accepted (mappingRow x ∷ []) (ap fragmentOutcome a) p (e ∙ ap (λ y. progressOf y n) a ∙ ap progress.Went size)
+          go (fragments.Paired x) a = ran-accepted (mappingRow (x .first) ∷ mappingRow (x .second) ∷ []) (ap fragmentOutcome a) p (e ∙ ap (λ y. progressOf y n) a ∙ ap progress.Went size)
+          go (fragments.Refused number) a =
+              let w = fragment-refuses c ranked ks rs os h entries lent bytes head (read .0) (t .audit) k entries′ audits number a in
+              let ends : Ends (running c h) (3 ∷ bytes) text = rw a (w .0) in
+              record {
+                advances = record { text = text; adds = tells .adds; told = subst (λ x. advancing.Tells ended (running c h) (3 ∷ bytes) x text (running c after)) (sym (e ∙ ap (λ y. progressOf y n) a)) (ends-told (running c h) (running c after) (3 ∷ bytes) out at out′ (record { at = t .end; progress = p }) ended text ends) };
+                still-passes = subst (Passes c) (sym (w .1)) (lent .passes);
+              }
