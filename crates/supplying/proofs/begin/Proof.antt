@@ -1,3 +1,5 @@
+use native.Mathlib.Omega.{arith}
+use Rattle.supplying.proofs.Supplying.{begin-elsewhere, begin-reads, begin-refuses, begin-stays}
 use borrow.Author.Needs.{needs}
 use Rattle.supplying.proofs.begin.Statement.{statement}
 use Rattle.supplying.proofs.begin.Tie as tie
@@ -17,7 +19,7 @@ same-length c = search needs
 
 -- src/lib.rt:52:9
 returns : tie.Need-returns
-returns c = ?
+returns c = let a = c .before .before .before .before .before .before .before .args in begin-elsewhere (a .ended) (a .code) (a .bytes .now) (a .out .now) (a .at) _ _ (c .before .before .before .before .if1 .taken) (c .before .before .refuse .ensures)
 
 -- src/lib.rt:54:11
 read-settings-requires : tie.Need-read-settings-requires
@@ -45,7 +47,7 @@ wait-or-refuse-requires c κs = search needs
 
 -- src/lib.rt:47:1
 returns-2 : tie.Need-returns-2
-returns-2 c = ?
+returns-2 c = let a = c .before .before .before .before .before .before .before .args in begin-reads (a .ended) (a .code) (a .bytes .now) (a .out .now) (a .at) (omega arith) _ (c .before .before .before .read-settings .ensures) _ (c .before .settings .given .1)
 
 -- src/lib.rt:47:1
 same-length-2 : tie.Need-same-length-2
@@ -53,7 +55,7 @@ same-length-2 c = search needs
 
 -- src/lib.rt:47:1
 returns-3 : tie.Need-returns-3
-returns-3 c = ?
+returns-3 c = let a = c .before .before .before .before .before .before .before .before .before .before .args in begin-refuses (a .ended) (a .code) (a .bytes .now) (a .out .now) (a .at) (omega arith) _ (c .before .before .before .before .before .before .read-settings .ensures) _ _ (c .before .before .before .before .enum-told .given .1) (c .before .before .refuse2 .ensures)
 
 -- src/lib.rt:47:1
 same-length-3 : tie.Need-same-length-3
@@ -61,7 +63,7 @@ same-length-3 c = search needs
 
 -- src/lib.rt:47:1
 returns-4 : tie.Need-returns-4
-returns-4 c = ?
+returns-4 c = let a = c .before .before .before .before .before .before .before .before .before .before .args in begin-stays (a .ended) (a .code) (a .bytes .now) (a .out .now) (a .at) (omega arith) _ (c .before .before .before .before .before .before .read-settings .ensures) _ _ (c .before .before .before .before .enum-told2 .given .1) (c .before .before .wait-or-refuse .ensures)
 
 pub begin-spec : {M : Type 1} → statement M
 begin-spec =

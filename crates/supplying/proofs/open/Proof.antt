@@ -1,3 +1,7 @@
+use mathlib.Core.Logic.{⊎-elim}
+use native.Mathlib.Omega.{arith}
+use Rattle.ledger.specs.Booking.{countersOf}
+use Rattle.supplying.proofs.Supplying.{at-three, at-five, open-elsewhere, open-refuses, open-goes}
 use borrow.Author.Needs.{needs}
 use Rattle.supplying.proofs.open.Statement.{statement}
 use Rattle.supplying.proofs.open.Tie as tie
@@ -16,7 +20,7 @@ same-length c = search needs
 
 -- src/lib.rt:137:9
 returns : tie.Need-returns
-returns c = ?
+returns c = let s = c .before .before .before .before .before .before .before .before .before .before .before .before .before .before .before .before .before .before .before in let a = s .args in open-elsewhere (a .code) (record { identifiers = a .identifiers .now; identifierEnds = a .identifier-ends .now; bases = a .bases .now; baseEnds = a .base-ends .now; marks = a .marks .now }) (a .settings) (countersOf (a .placements .now) (a .singles .now) (a .multi .now)) (a .out .now) (a .at) (a .ranked .now) (a .keys .now) (a .ranks .now) (a .positions .now) (s .pre .1) _ _ (λ e. omega arith) (λ e. omega arith) (c .before .before .refuse .ensures)
 
 -- src/lib.rt:139:9
 open-job-requires : tie.Need-open-job-requires
@@ -56,7 +60,7 @@ same-length-6 c = search needs
 
 -- src/lib.rt:114:1
 returns-2 : tie.Need-returns-2
-returns-2 c = ?
+returns-2 c = let s = c .before .before .before .before .before .before .before .before .before .before .before .before .before .before .before .before .before .before .before .before .before .before .before .before .before .before .before .before .before .before .before .before .before .before in let a = s .args in let k = c .before .before .before .before .before .before .before .before .before .before .before .before .before .before .before .open-job in open-refuses (a .code) (record { identifiers = a .identifiers .now; identifierEnds = a .identifier-ends .now; bases = a .bases .now; baseEnds = a .base-ends .now; marks = a .marks .now }) (a .settings) (countersOf (a .placements .now) (a .singles .now) (a .multi .now)) (a .out .now) (a .at) (k .last .0) (k .last .1 .0) (k .last .1 .1 .0) (k .last .1 .1 .1 .0) (s .pre .1) (⊎-elim (λ w. at-five (a .code) (omega (arith, w .1 .left))) (λ w. at-three (a .code) (omega (arith, w .left))) (c .before .before .before .before .before .before .before .before .before .before .before .before .before .before .before .before .before .before .before .before .if1 .came)) (k .result) (k .ensures) _ (c .before .before .before .before .before .opening .given .1) _ _ (c .before .before .refuse2 .ensures)
 
 -- src/lib.rt:114:1
 same-length-7 : tie.Need-same-length-7
@@ -76,7 +80,7 @@ same-length-10 c = search needs
 
 -- src/lib.rt:114:1
 returns-3 : tie.Need-returns-3
-returns-3 c = ?
+returns-3 c = let s = c .before .before .before .before .before .before .before .before .before .before .before .before .before .before .before .before .before .before .before .before .before .before .before .before .before .before .before .before .before .before in let a = s .args in let k = c .before .before .before .before .before .before .before .before .before .before .before .open-job in open-goes (a .code) (record { identifiers = a .identifiers .now; identifierEnds = a .identifier-ends .now; bases = a .bases .now; baseEnds = a .base-ends .now; marks = a .marks .now }) (a .settings) (countersOf (a .placements .now) (a .singles .now) (a .multi .now)) (a .out .now) (a .at) (k .last .0) (k .last .1 .0) (k .last .1 .1 .0) (k .last .1 .1 .1 .0) (s .pre .1) (⊎-elim (λ w. at-five (a .code) (omega (arith, w .1 .left))) (λ w. at-three (a .code) (omega (arith, w .left))) (c .before .before .before .before .before .before .before .before .before .before .before .before .before .before .before .before .if1 .came)) (k .result) (k .ensures) _ (c .before .opening2 .given .1)
 
 pub open-spec : {M : Type 1} → statement M
 open-spec =

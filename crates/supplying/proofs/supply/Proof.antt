@@ -1,3 +1,5 @@
+use native.Mathlib.Omega.{arith}
+use Rattle.supplying.proofs.Supplying.{target-there, target-room, supply-refuses, supply-stays, supply-goes, kept-more}
 use borrow.Author.Needs.{needs}
 use Rattle.supplying.proofs.supply.Statement.{statement}
 use Rattle.supplying.proofs.supply.Tie as tie
@@ -34,11 +36,11 @@ enum-known-head c = search needs
 
 -- src/lib.rt:89:26
 add-middle : tie.Need-add-middle
-add-middle c = ?
+add-middle c = let s = c .before .before .before .before .before .before .before .before .before .before .before .before in let a = s .args in let l = target-there (a .held) (a .identifiers .now) (a .identifier-ends .now) (a .bases .now) (a .base-ends .now) (a .marks .now) (s .pre .0) (a .bytes .now) _ (c .before .before .before .before .read-target .ensures) _ (c .before .before .head .given .1) in omega (arith, l)
 
 -- src/lib.rt:90:23
 add-end : tie.Need-add-end
-add-end c = ?
+add-end c = let s = c .before .before .before .before .before .before .before .before .before .before .before .before .before in let a = s .args in let l = target-there (a .held) (a .identifiers .now) (a .identifier-ends .now) (a .bases .now) (a .base-ends .now) (a .marks .now) (s .pre .0) (a .bytes .now) _ (c .before .before .before .before .before .read-target .ensures) _ (c .before .before .before .head .given .1) in omega (arith, l)
 
 -- src/lib.rt:99:17
 sub-store-target : tie.Need-sub-store-target
@@ -50,7 +52,7 @@ part-store-target-start c = search needs
 
 -- src/lib.rt:99:17
 part-store-target-end : tie.Need-part-store-target-end
-part-store-target-end c = ?
+part-store-target-end c = let s = c .before .before .before .before .before .before .before .before .before .before .before .before .before .before .before .before .before .before in let a = s .args in let l = target-there (a .held) (a .identifiers .now) (a .identifier-ends .now) (a .bases .now) (a .base-ends .now) (a .marks .now) (s .pre .0) (a .bytes .now) _ (c .before .before .before .before .before .before .before .before .before .before .read-target .ensures) _ (c .before .before .before .before .before .before .before .before .head .given .1) in omega (arith, l)
 
 -- src/lib.rt:100:17
 sub-store-target-2 : tie.Need-sub-store-target-2
@@ -62,15 +64,15 @@ part-store-target-start-2 c = search needs
 
 -- src/lib.rt:100:17
 part-store-target-end-2 : tie.Need-part-store-target-end-2
-part-store-target-end-2 c = ?
+part-store-target-end-2 c = let s = c .before .before .before .before .before .before .before .before .before .before .before .before .before .before .before .before .before .before .before in let a = s .args in let l = target-there (a .held) (a .identifiers .now) (a .identifier-ends .now) (a .bases .now) (a .base-ends .now) (a .marks .now) (s .pre .0) (a .bytes .now) _ (c .before .before .before .before .before .before .before .before .before .before .before .read-target .ensures) _ (c .before .before .before .before .before .before .before .before .before .head .given .1) in omega (arith, l)
 
 -- src/lib.rt:91:17
 store-target-requires : tie.Need-store-target-requires
-store-target-requires c κs = ?
+store-target-requires c κs = let s = c .before .before .before .before .before .before .before .before .before .before .before .before .before .before .before .before .before .before .before .before in let a = s .args in target-room (a .held) (a .identifiers .now) (a .identifier-ends .now) (a .bases .now) (a .base-ends .now) (a .marks .now) (s .pre .0) (a .bytes .now) _ (c .before .before .before .before .before .before .before .before .before .before .before .before .read-target .ensures) _ (c .before .before .before .before .before .before .before .before .before .before .head .given .1)
 
 -- src/lib.rt:105:46
 add-t34 : tie.Need-add-t34
-add-t34 c = ?
+add-t34 c = let s = c .before .before .before .before .before .before .before .before .before .before .before .before .before .before .before .before .before .before .before .before .before .before .before .before .before .before .before .before .before .before .before in let a = s .args in let l = target-there (a .held) (a .identifiers .now) (a .identifier-ends .now) (a .bases .now) (a .base-ends .now) (a .marks .now) (s .pre .0) (a .bytes .now) _ (c .before .before .before .before .before .before .before .before .before .before .before .before .before .before .before .before .before .before .before .before .before .before .before .read-target .ensures) _ (c .before .before .before .before .before .before .before .before .before .before .before .before .before .before .before .before .before .before .before .before .before .head .given .1) in omega (arith, l)
 
 -- src/lib.rt:62:1
 same-length : tie.Need-same-length
@@ -78,7 +80,7 @@ same-length c = search needs
 
 -- src/lib.rt:62:1
 returns : tie.Need-returns
-returns c = ?
+returns c = let s = c .before .before .before .before .before .before .before .before .before .before .before .before .before .before in let a = s .args in (supply-refuses (a .held) (a .identifiers .now) (a .identifier-ends .now) (a .bases .now) (a .base-ends .now) (a .marks .now) (s .pre .0) (a .bytes .now) _ (c .before .before .before .before .before .before .read-target .ensures) (a .ended) (a .out .now) (a .at) _ _ (c .before .before .before .before .enum-told .given .1) (c .before .before .refuse .ensures), s .pre .0)
 
 -- src/lib.rt:62:1
 same-length-2 : tie.Need-same-length-2
@@ -86,7 +88,7 @@ same-length-2 c = search needs
 
 -- src/lib.rt:62:1
 returns-2 : tie.Need-returns-2
-returns-2 c = ?
+returns-2 c = let s = c .before .before .before .before .before .before .before .before .before .before .before .before .before .before in let a = s .args in (supply-stays (a .held) (a .identifiers .now) (a .identifier-ends .now) (a .bases .now) (a .base-ends .now) (a .marks .now) (s .pre .0) (a .bytes .now) _ (c .before .before .before .before .before .before .read-target .ensures) (a .ended) (a .out .now) (a .at) _ _ (c .before .before .before .before .enum-told2 .given .1) (c .before .before .wait-or-refuse .ensures), s .pre .0)
 
 -- src/lib.rt:62:1
 same-length-3 : tie.Need-same-length-3
@@ -110,7 +112,7 @@ same-length-7 c = search needs
 
 -- src/lib.rt:62:1
 returns-3 : tie.Need-returns-3
-returns-3 c = ?
+returns-3 c = let s = c .before .before .before .before .before .before .before .before .before .before .before .before .before .before .before .before .before .before .before .before .before .before .before .before .before .before .before .before .before .before .before in let a = s .args in let h = c .before .before .before .before .before .before .before .before .before .before .before .before .before .before .before .before .before .before .before .before .before .head .given in let k = c .before .before .before .before .before .before .before .before .before .before .store-target in (supply-goes (a .held) (a .identifiers .now) (a .identifier-ends .now) (a .bases .now) (a .base-ends .now) (a .marks .now) (s .pre .0) (a .bytes .now) _ (c .before .before .before .before .before .before .before .before .before .before .before .before .before .before .before .before .before .before .before .before .before .before .before .read-target .ensures) _ (h .1) (k .result) (k .last .0) (k .last .1 .0) (k .last .1 .1 .0) (k .last .1 .1 .1 .0) (k .last .1 .1 .1 .1 .0) (k .ensures .0) (a .ended) (a .out .now) (a .at), kept-more (a .held) (a .identifiers .now) (a .identifier-ends .now) (a .bases .now) (a .base-ends .now) (a .marks .now) (s .pre .0) (a .bytes .now) _ (c .before .before .before .before .before .before .before .before .before .before .before .before .before .before .before .before .before .before .before .before .before .before .before .read-target .ensures) _ (h .1) (k .result) (k .last .0) (k .last .1 .0) (k .last .1 .1 .0) (k .last .1 .1 .1 .0) (k .last .1 .1 .1 .1 .0) (k .ensures .1) (k .kept .0) (k .kept .1 .0) (k .kept .1 .1 .0) (k .kept .1 .1 .1 .0) (k .kept .1 .1 .1 .1 .0))
 
 pub supply-spec : {M : Type 1} → statement M
 supply-spec =
