@@ -3,9 +3,9 @@
 use mathlib.Core.Path.{_≡_, refl, sym, ap, subst, _∙_}
 use mathlib.Core.Bool.{Bool, true, _||_}
 use mathlib.Core.List.{List, [], _∷_}
-use Prim.Native.Nat.{ℕ, suc, _+_, _-_, _≤_}
+use Prim.Native.Nat.{ℕ, suc, _+_, _≤_}
 use native.Mathlib.Omega.{arith}
-use lib.ListN.{length, take, drop, length-drop}
+use lib.ListN.{length, take, drop, length-take}
 use lib.Seq.{length-take-le}
 use lib.Dec.{eqb}
 use Rattle.lists.specs.Cut.{window}
@@ -20,9 +20,9 @@ use Rattle.stream.specs.declared.TargetHead.{TargetHead}
 use Rattle.stream.specs.declared.TargetRead.{TargetRead}
 use Rattle.stream.specs.declared.TargetRead.the-variants as targets
 use Rattle.stream.specs.Commands.{withTarget}
-use Rattle.stream.specs.Telling.{SettingsTold, TargetWithin, TargetTold, TargetsTold}
+use Rattle.stream.specs.Telling.{SettingsTold, targetAt, TargetWithin, TargetTold, TargetsTold}
 use Rattle.supplies.specs.declared.Supply.{Supply}
-use Rattle.supplies.specs.Supplied.{suppliedIn, moreSupply, SupplyRoom}
+use Rattle.supplies.specs.Supplied.{suppliedIn, moreSupply}
 use Rattle.catch_rules.specs.Job.{noTargets, lentOf, beginning, supplying, running}
 use Rattle.catch_rules.specs.Feeding.{Goes}
 use Rattle.catch_rules.proofs.Steps.{begin-read, begin-wrong, begin-short, begin-other, supply-read, supply-wrong, supply-short, supply-other, opening-refuses, opening-accepts}
@@ -62,16 +62,9 @@ module _ (ended : Bool) (code : ℕ) (bytes out : List ℕ) (at : ℕ) where
 
 -- ---- 02
 
--- what stands behind a code and so many bytes
-behind-code : (code : ℕ) (bytes : List ℕ) (end : ℕ) → drop end bytes ≡ drop (1 + end) (code ∷ bytes)
-behind-code code bytes end = let e : suc end ≡ 1 + end = omega arith in ap (λ m. drop m (code ∷ bytes)) e
-
--- the identifier and the bases as they are lent
-pub lent-name : (bytes : List ℕ) (n : ℕ) → take (6 + n - 6) (drop 6 bytes) ≡ window bytes 6 n
-lent-name bytes n = let e : 6 + n - 6 ≡ n = omega arith in ap (λ m. take m (drop 6 bytes)) e
-
-pub lent-bases : (bytes : List ℕ) (n k : ℕ) → take (6 + n + k - (6 + n)) (drop (6 + n) bytes) ≡ window bytes (6 + n) k
-lent-bases bytes n k = let e : 6 + n + k - (6 + n) ≡ k = omega arith in ap (λ m. take m (drop (6 + n) bytes)) e
+-- no more than so many
+at-most : (n : ℕ) (l : List ℕ) → length (take n l) ≤ n
+at-most n l = omega (arith, length-take n l)
 
 module _ (held : Supply) (is ies bs bes ms : List ℕ) (kept : SupplyKept held is ies bs bes ms) (bytes : List ℕ) (answer : TargetRead) (told : TargetsTold (held .targets) (held .bases) bytes answer) where
   -- the targets so far
@@ -101,59 +94,42 @@ module _ (held : Supply) (is ies bs bes ms : List ℕ) (kept : SupplyKept held i
     pub target-there : 6 + h .name + h .count ≤ length bytes
     target-there = as-told (targets.Read h) read .0 .within
 
-    fitting : TargetWithin (held .targets) (held .bases) h
-    fitting =
+    -- and it is within the bounds
+    pub target-fitting : TargetWithin (held .targets) (held .bases) h
+    target-fitting =
         let w = as-told (targets.Read h) read .1 in
         record { one = omega (arith, w .one, many); identifier = w .identifier; bases = omega (arith, w .bases, long) }
 
-    abbrev name : List ℕ
-    name = take (6 + h .name - 6) (drop 6 bytes)
+    -- with no more than that stored, there is still room
+    pub kept-more : (held′ : Supply) (is′ ies′ bs′ bes′ ms′ : List ℕ) (n k : ℕ) (x y : List ℕ) → n ≤ h .name → k ≤ h .count → held′ ≡ moreSupply held (length (take n x)) (length (take k y))
+        → length is′ ≡ length is → length ies′ ≡ length ies → length bs′ ≡ length bs → length bes′ ≡ length bes → length ms′ ≡ length ms → SupplyKept held′ is′ ies′ bs′ bes′ ms′
+    kept-more held′ is′ ies′ bs′ bes′ ms′ n k x y named based e li lie lb lbe lm =
+        let w = target-fitting in
+        rw e (record {
+          targets = omega (arith, w .one);
+          names = omega (arith, kept .names, w .identifier, at-most n x);
+          bases = omega (arith, w .bases, at-most k y);
+          identifiers = li ∙ kept .identifiers;
+          identifierEnds = lie ∙ kept .identifierEnds;
+          sequences = lb ∙ kept .sequences;
+          baseEnds = lbe ∙ kept .baseEnds;
+          marks = lm ∙ kept .marks;
+        })
 
-    abbrev sequence : List ℕ
-    sequence = take (6 + h .name + h .count - (6 + h .name)) (drop (6 + h .name) bytes)
+    -- where it is stored as it stands, the step goes to where it ends
+    module _ (n k : ℕ) (c′ : Catalogue) (stored : c′ ≡ withTarget c (h .topology) (window bytes 6 n) (window bytes (6 + h .name) k)) (named : n ≡ h .name) (based : k ≡ h .count) where
+      same-target : c′ ≡ targetAt c bytes h
+      same-target = stored ∙ rw (named, based) refl
 
-    name-length : length name ≡ h .name
-    name-length = ap length (lent-name bytes (h .name)) ∙ length-take-le (h .name) (drop 6 bytes) (simp length-drop (omega (arith, target-there)))
+      module _ (end : ℕ) (last : end ≡ 7 + h .name + h .count) where
+        behind-target : drop (6 + h .name + h .count) bytes ≡ drop end (2 ∷ bytes)
+        behind-target = let e : suc (6 + h .name + h .count) ≡ end = omega arith in ap (λ m. drop m (2 ∷ bytes)) e
 
-    sequence-length : length sequence ≡ h .count
-    sequence-length = ap length (lent-bases bytes (h .name) (h .count)) ∙ length-take-le (h .count) (drop (6 + h .name) bytes) (simp length-drop (omega (arith, target-there)))
-
-    pub target-room : SupplyRoom held name sequence is ies bs bes ms
-    target-room =
-        let w = fitting in
-        record {
-          identifiers = omega (arith, kept .names, kept .identifiers, w .one, w .identifier, name-length);
-          bases = omega (arith, kept .sequences, w .bases, sequence-length);
-          identifierEnds = omega (arith, kept .identifierEnds, w .one);
-          baseEnds = omega (arith, kept .baseEnds, w .one);
-          marks = omega (arith, kept .marks, w .one);
-        }
-
-    -- with a target more
-    module _ (held′ : Supply) (is′ ies′ bs′ bes′ ms′ : List ℕ) where
-      pub supply-goes : suppliedIn held′ is′ ies′ bs′ bes′ ms′ ≡ withTarget c (h .topology) name sequence → (ended : Bool) (out : List ℕ) (at : ℕ) (s : Settings)
-          → Advances ended (supplying s c) (2 ∷ bytes) out at out (went at (1 + (6 + h .name + h .count))) (supplying s (suppliedIn held′ is′ ies′ bs′ bes′ ms′))
-      supply-goes e ended out at s =
-          let p = as-told (targets.Read h) read .0 in
-          let c′ = withTarget c (h .topology) (window bytes 6 (h .name)) (window bytes (6 + h .name) (h .count)) in
-          let same : suppliedIn held′ is′ ies′ bs′ bes′ ms′ ≡ c′ = e ∙ ap (λ l. withTarget c (h .topology) l sequence) (lent-name bytes (h .name)) ∙ ap (withTarget c (h .topology) (window bytes 6 (h .name))) (lent-bases bytes (h .name) (h .count)) in
-          let end = 6 + h .name + h .count in
-          rw same (goes-on (supplying s c) (supplying s c′) (2 ∷ bytes) out at out ended (1 + end) refl (omega (arith, p .within)) (subst (Goes (supplying s c) (2 ∷ bytes) [] (supplying s c′)) (behind-code 2 bytes end) (supply-read s c bytes c′ end p)))
-
-      pub kept-more : held′ ≡ moreSupply held (length name) (length sequence) → length is′ ≡ length is → length ies′ ≡ length ies → length bs′ ≡ length bs → length bes′ ≡ length bes → length ms′ ≡ length ms
-          → SupplyKept held′ is′ ies′ bs′ bes′ ms′
-      kept-more e l1 l2 l3 l4 l5 =
-          let w = fitting in
-          rw e (record {
-            targets = omega (arith, w .one);
-            names = omega (arith, kept .names, w .identifier, name-length);
-            bases = omega (arith, w .bases, sequence-length);
-            identifiers = l1 ∙ kept .identifiers;
-            identifierEnds = l2 ∙ kept .identifierEnds;
-            sequences = l3 ∙ kept .sequences;
-            baseEnds = l4 ∙ kept .baseEnds;
-            marks = l5 ∙ kept .marks;
-          })
+        pub supply-goes : (ended : Bool) (out : List ℕ) (at : ℕ) (s : Settings) → Advances ended (supplying s c) (2 ∷ bytes) out at out (went at end) (supplying s c′)
+        supply-goes ended out at s =
+            let p = as-told (targets.Read h) read .0 in
+            let g = subst (Goes (supplying s c) (2 ∷ bytes) [] (supplying s (targetAt c bytes h))) behind-target (supply-read s c bytes (targetAt c bytes h) (6 + h .name + h .count) p) in
+            rw same-target (goes-on (supplying s c) (supplying s (targetAt c bytes h)) (2 ∷ bytes) out at out ended end refl (omega (arith, p .within)) g)
 
 -- ---- the opening
 
