@@ -5,12 +5,12 @@ use mathlib.Core.Bool.{Bool, true, false}
 use mathlib.Core.List.{List, [], _++_, append-nil}
 use Prim.Native.Nat.{ℕ, _≤_}
 use native.Mathlib.Omega.{arith}
-use lib.ListN.{length, take}
+use lib.ListN.{length, take, drop}
 use Rattle.texts.specs.Writing.{AddsAtMost}
 use Rattle.lines.specs.Lines.{lineRoom, refusalLine}
 use Rattle.fragment_stream.specs.Telling.{longestFragment}
 use Rattle.catch_rules.specs.Job.{Stage, still}
-use Rattle.catch_rules.specs.Feeding.{Ends}
+use Rattle.catch_rules.specs.Feeding.{Goes, Ends}
 use Rattle.advances.specs.declared.Progress.{Progress}
 use Rattle.advances.specs.declared.Progress.the-variants as progress
 use Rattle.advances.specs.declared.Advance.{Advance}
@@ -53,3 +53,13 @@ module _ (stage : Stage) (bytes out : List ℕ) (at : ℕ) (out′ : List ℕ) (
   pub stays : (ended : Bool) → Stays ended out at out′ r → still stage bytes ≡ refusalLine 20 → Advances ended stage bytes out at out′ r stage
   stays true f e = last-step stage stage bytes out at out′ r true lineRoom (refusalLine 20) (omega arith) (f .adds) (f .last) e
   stays false f e = waits (f .0) (f .1)
+
+-- a step that writes nothing and goes n bytes
+pub goes-on : (before after : Stage) (bytes out : List ℕ) (at : ℕ) (out′ : List ℕ) (ended : Bool) (n : ℕ) → out′ ≡ out → n ≤ length bytes → Goes before bytes [] after (drop n bytes)
+    → Advances ended before bytes out at out′ (record { at = at; progress = progress.Went n }) after
+goes-on before after bytes out at out′ ended n e h g =
+    record {
+      text = [];
+      adds = subst (λ l. AddsAtMost stepRoom [] out at l at) (sym e) (nothing-added out at);
+      told = (h, g);
+    }

@@ -8,19 +8,27 @@ use native.Mathlib.Omega.{arith}
 use lib.ListN.{length, getD, take, drop, length-drop}
 use lib.Seq.{getD-take}
 use lib.Dec.{leb, ltb}
-use borrow.Author.Tests.{leb-true}
+use borrow.Author.Tests.{leb-true, ltb-true}
 use Rattle.lists.specs.Cut.{window}
 use Rattle.lists.proofs.Cases.{and-true}
 use Rattle.lists.specs.Filter.{every}
 use Rattle.catalogue.specs.Catalogue.{Catalogue}
 use Rattle.stream.specs.Operands.{Parsed, bytesIn, littleEndian}
 use Rattle.stream.specs.Commands.{maxStreamTargets, maxStreamBases, isMark, provided, isNameByte, withTarget, targetFits, targetIn}
-use Rattle.stream.specs.Telling.{Read, Refused, Short, longestTarget}
+use Rattle.stream.specs.Telling.{Read, Refused, Short, longestTarget, TargetWithin}
 use Rattle.stream.proofs.Pieces.{here, drop-take, granted, denied, bytes-in, bytes-lacking, behind-parsed, behind-wrong, twoIn, two-wrong, two-lacking, two-in}
 
--- a target that fits has no more bases than are left
-pub target-count : (t n k targets held : ℕ) → targetFits t n k targets held ≡ true → held + k ≤ 1024
-target-count t n k targets held e = leb-true (held + k) 1024 (and-true (isMark t && leb 1 n && ltb targets maxStreamTargets) (leb (held + k) maxStreamBases) e .1)
+module _ (t n k targets held : ℕ) (e : targetFits t n k targets held ≡ true) where
+  tests-passed : ((isMark t && leb 1 n && ltb targets maxStreamTargets) ≡ true) × (leb (held + k) maxStreamBases ≡ true)
+  tests-passed = and-true (isMark t && leb 1 n && ltb targets maxStreamTargets) (leb (held + k) maxStreamBases) e
+
+  -- a target that fits has no more bases than are left
+  pub target-count : held + k ≤ 1024
+  target-count = leb-true (held + k) 1024 (tests-passed .1)
+
+  -- there are fewer than 16 others
+  pub target-few : targets < 16
+  target-few = ltb-true targets 16 (and-true (isMark t && leb 1 n) (ltb targets maxStreamTargets) (tests-passed .0) .1)
 
 module _ (c : Catalogue) where
   -- what follows the identifier and the bases
@@ -79,4 +87,13 @@ module _ (c : Catalogue) where
             record {
               within = s;
               told = λ more. whole more ∙ granted (withTarget c t (window b 6 n) (window b (6 + n) k)) (drop (6 + n + k) b ++ more) _ (name-test true e);
+            }
+
+        -- its length is a byte
+        pub target-within : n < 256 → TargetWithin (length (c .marks)) (length (c .bases)) (record { topology = t; name = n; count = k })
+        target-within small =
+            record {
+              one = omega (arith, target-few t n k targets held f, em);
+              identifier = omega (arith, small);
+              bases = omega (arith, target-count t n k targets held f, eb);
             }

@@ -4,14 +4,14 @@ use mathlib.Core.List.{List, _++_}
 use Prim.Native.Nat.{ℕ, _+_, _≤_, _<_}
 use lib.ListN.{length, drop}
 use Rattle.lists.specs.Cut.{window}
-use Rattle.catalogue.specs.Catalogue.{Catalogue}
+use Rattle.catalogue.specs.Catalogue.{Catalogue, maxIdentifier}
 use Rattle.stream.specs.declared.SettingsRead.{SettingsRead}
 use Rattle.stream.specs.declared.SettingsRead.the-variants as settings
 use Rattle.stream.specs.declared.TargetRead.{TargetRead}
 use Rattle.stream.specs.declared.TargetRead.the-variants as targets
 use Rattle.stream.specs.declared.TargetHead.{TargetHead}
 use Rattle.stream.specs.Operands.{Parsed, parsed, wrong}
-use Rattle.stream.specs.Commands.{settingsIn, withTarget, targetIn}
+use Rattle.stream.specs.Commands.{maxStreamTargets, maxStreamBases, settingsIn, withTarget, targetIn}
 
 -- ---- three ways to be told
 
@@ -45,8 +45,14 @@ targetAt c bytes h = withTarget c (h .topology) (window bytes 6 (h .name)) (wind
 abbrev pub longestTarget : ℕ
 longestTarget = 1285
 
+-- a target within the bounds of a stream, behind so many targets and bases
+pub record TargetWithin (targets held : ℕ) (h : TargetHead) : Type 0 where
+  pub one : targets < maxStreamTargets
+  pub identifier : h .name ≤ maxIdentifier
+  pub bases : held + h .count ≤ maxStreamBases
+
 abbrev pub TargetTold : Catalogue → List ℕ → TargetRead → Type 0
-TargetTold c bytes (targets.Read h) = Read (targetIn c) bytes (targetAt c bytes h) (6 + h .name + h .count)
+TargetTold c bytes (targets.Read h) = Read (targetIn c) bytes (targetAt c bytes h) (6 + h .name + h .count) × TargetWithin (length (c .marks)) (length (c .bases)) h
 TargetTold c bytes targets.Wrong = Refused (targetIn c) bytes
 TargetTold c bytes targets.More = Short (targetIn c) bytes longestTarget
 

@@ -10,7 +10,7 @@ use lib.Seq.{take-suc-set, length-take-le}
 use Rattle.texts.specs.Writing.{Adds}
 use Rattle.stream.specs.Commands.{withTarget}
 use Rattle.supplies.specs.declared.Supply.{Supply}
-use Rattle.supplies.specs.Supplied.{suppliedIn, SupplyRoom}
+use Rattle.supplies.specs.Supplied.{suppliedIn, moreSupply, SupplyRoom}
 
 -- one element more
 one-more : (l : List ℕ) (at v : ℕ) → at < length l → take (at + 1) (set l at v) ≡ take at l ++ v ∷ []
@@ -32,3 +32,6 @@ module _ (s : Supply) (topology : ℕ) (name sequence is ies bs bes ms is′ bs�
         baseEnds = (one-more bes (s .targets) total (room .baseEnds) ∙ ap (λ n. take (s .targets) bes ++ n ∷ []) (end-is bs sequence bs′ (s .bases) total (omega (arith, room .bases)) based)) i;
         marks = one-more ms (s .targets) topology (room .marks) i;
       }
+
+  pub counted : _≡_ {A = Supply} (record { targets = s .targets + 1; names = names; bases = total }) (moreSupply s (length name) (length sequence))
+  counted = λ i. record { targets = s .targets + 1; names = named .end i; bases = based .end i }

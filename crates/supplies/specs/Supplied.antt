@@ -19,6 +19,10 @@ lentSupply s is ies bs bes ms = suppliedIn s (old is) (old ies) (old bs) (old be
 abbrev pub leftSupply : Supply → Slice → Slice → Slice → Slice → Slice → Catalogue
 leftSupply s is ies bs bes ms = suppliedIn s (new is) (new ies) (new bs) (new bes) (new ms)
 
+-- one target more, with so many bytes and bases
+abbrev pub moreSupply : Supply → ℕ → ℕ → Supply
+moreSupply s name count = record { targets = s .targets + 1; names = s .names + name; bases = s .bases + count }
+
 -- there is room for one target more
 pub record SupplyRoom (s : Supply) (name sequence is ies bs bes ms : List ℕ) : Type 0 where
   pub identifiers : s .names + length name ≤ length is

@@ -1,8 +1,9 @@
 // Targets stored behind each other, as a catalogue is lent.
 ghost use mathlib.Core.Path.{_≡_};
+ghost use lib.ListN.{length};
 ghost use Rattle.promises.specs.Slice.{old};
 ghost use Rattle.stream.specs.Commands.{withTarget};
-ghost use Rattle.supplies.specs.Supplied.{lentSupply, leftSupply, SupplyRoom};
+ghost use Rattle.supplies.specs.Supplied.{lentSupply, leftSupply, moreSupply, SupplyRoom};
 use texts::put_bytes;
 
 // How many targets there are, how many bytes their identifiers have, and how many bases there are.
@@ -27,6 +28,7 @@ pub fn store_target(
     requires { ⌜ SupplyRoom supply (now name) (now sequence) (now identifiers) (now «identifier_ends») (now bases) (now «base_ends») (now marks) ⌝ }
     ensures { λ r. ⌜ leftSupply r identifiers «identifier_ends» bases «base_ends» marks
         ≡ withTarget (lentSupply supply identifiers «identifier_ends» bases «base_ends» marks) topology (old name) (old sequence) ⌝ }
+    ensures { λ r. ⌜ r ≡ moreSupply supply (length (old name)) (length (old sequence)) ⌝ }
 {
     let at = supply.targets;
     let names = put_bytes(identifiers, supply.names, name);

@@ -7,7 +7,7 @@ use native.Mathlib.Omega.{arith}
 use lib.ListN.{getD}
 use borrow.Author.Tests.{not-true, not-false}
 use Rattle.stream.specs.Commands.{targetFits}
-use Rattle.stream.proofs.Targets.{target-count, target-none, target-refused, target-short, target-misnamed, target-read}
+use Rattle.stream.proofs.Targets.{target-count, target-none, target-refused, target-short, target-misnamed, target-read, target-within}
 use borrow.Author.Needs.{needs}
 use Rattle.stream.proofs.read_target.Statement.{statement}
 use Rattle.stream.proofs.read_target.Tie as tie
@@ -99,7 +99,9 @@ returns-5 : tie.Need-returns-5
 returns-5 c =
     λ k m h.
     let a = c .before .before .before .before .before .before .before .before .before .before .before .before .args in
-    target-read k (a .bytes .now) _ _ (number (c .before .before .before .before)) (a .targets) (a .held) m h (omega arith) (omega arith) (omega arith) (c .before .before .before .before .before .before .little-endian .ensures) (omega arith) (fits (c .before .before .before .before)) (6 + getD (a .bytes .now) 1 0 - 6) (omega arith) (sym (c .before .is-name .ensures) ∙ not-false _ (c .if4 .left))
+    let e = c .before .before .before .before in
+    let l = getD (a .bytes .now) 1 0 in
+    (target-read k (a .bytes .now) (getD (a .bytes .now) 0 0) l (number e) (a .targets) (a .held) m h (omega arith) refl refl (e .before .before .little-endian .ensures) (omega arith) (fits e) (6 + l - 6) (omega arith) (sym (c .before .is-name .ensures) ∙ not-false _ (c .if4 .left)), target-within k (a .bytes .now) (getD (a .bytes .now) 0 0) l (number e) (a .targets) (a .held) m h (omega arith) refl refl (e .before .before .little-endian .ensures) (omega arith) (fits e) (6 + l - 6) (omega arith) (few e .0))
 
 pub read-target-spec : {M : Type 1} → statement M
 read-target-spec =

@@ -1,6 +1,6 @@
 -- `supplies::store_target` meets its contract: bytes behind those of the others, and their ends.
 -- Assumes nothing.
-use Rattle.supplies.proofs.Storing.{stored}
+use Rattle.supplies.proofs.Storing.{stored, counted}
 use borrow.Author.Needs.{needs}
 use Rattle.supplies.proofs.store_target.Statement.{statement}
 use Rattle.supplies.proofs.store_target.Tie as tie
@@ -48,7 +48,7 @@ returns : tie.Need-returns
 returns c =
     let s = c .before .before .before .before .before .before .before .before .before .before .before .before .before .before .before in
     let a = s .args in
-    stored (a .supply) (a .topology) (a .name .now) (a .sequence .now) (a .identifiers .now) (a .identifier-ends .now) (a .bases .now) (a .base-ends .now) (a .marks .now) _ _ (s .pre) _ _ (c .before .before .before .before .before .before .put-bytes .ensures) (c .before .before .put-bytes2 .ensures)
+    (stored (a .supply) (a .topology) (a .name .now) (a .sequence .now) (a .identifiers .now) (a .identifier-ends .now) (a .bases .now) (a .base-ends .now) (a .marks .now) _ _ (s .pre) _ _ (c .before .before .before .before .before .before .put-bytes .ensures) (c .before .before .put-bytes2 .ensures), counted (a .supply) (a .topology) (a .name .now) (a .sequence .now) (a .identifiers .now) (a .identifier-ends .now) (a .bases .now) (a .base-ends .now) (a .marks .now) _ _ (s .pre) _ _ (c .before .before .before .before .before .before .put-bytes .ensures) (c .before .before .put-bytes2 .ensures))
 
 pub store-target-spec : {M : Type 1} → statement M
 store-target-spec =

@@ -1,67 +1,60 @@
+-- `supplying::begin` meets its contract: another code is refused, else the step is as the settings are read.
+-- Assumes nothing.
+use native.Mathlib.Omega.{arith}
+use Rattle.supplying.proofs.Supplying.{begin-elsewhere, begin-reads, begin-refuses, begin-stays}
 use borrow.Author.Needs.{needs}
 use Rattle.supplying.proofs.begin.Statement.{statement}
 use Rattle.supplying.proofs.begin.Tie as tie
-use Rattle.supplying.proofs.begin.Reads as reads
-use Rattle.supplying.proofs.begin.Lts as lts
-use Rattle.advances.proofs.refuse.Reads as refuse-reads
-use Rattle.advances.proofs.wait_or_refuse.Reads as wait-or-refuse-reads
-use Rattle.stream.proofs.read_settings.Reads as read-settings-reads
 
--- src/lib.rt:52:31
 refuse-requires : tie.Need-refuse-requires
 refuse-requires c κs = search needs
 
--- src/lib.rt:52:9
 same-length : tie.Need-same-length
 same-length c = search needs
 
--- src/lib.rt:52:9
 returns : tie.Need-returns
-returns c = ?
+returns c =
+    let a = c .before .before .before .before .before .before .before .args in
+    begin-elsewhere (a .ended) (a .code) (a .bytes .now) (a .out .now) (a .at) _ _ (λ e. omega arith) (c .before .before .refuse .ensures)
 
--- src/lib.rt:54:11
 read-settings-requires : tie.Need-read-settings-requires
 read-settings-requires c κs = search needs
 
--- src/lib.rt:55:28
 enum-known-settings : tie.Need-enum-known-settings
 enum-known-settings c = search needs
 
--- src/lib.rt:56:54
 enum-told : tie.Need-enum-told
 enum-told c = search needs
 
--- src/lib.rt:56:47
 refuse-requires-2 : tie.Need-refuse-requires-2
 refuse-requires-2 c κs = search needs
 
--- src/lib.rt:57:61
 enum-told-2 : tie.Need-enum-told-2
 enum-told-2 c = search needs
 
--- src/lib.rt:57:46
 wait-or-refuse-requires : tie.Need-wait-or-refuse-requires
 wait-or-refuse-requires c κs = search needs
 
--- src/lib.rt:47:1
 returns-2 : tie.Need-returns-2
-returns-2 c = ?
+returns-2 c =
+    let a = c .before .before .before .before .before .before .before .args in
+    begin-reads (a .ended) (a .code) (a .bytes .now) (a .out .now) (a .at) (omega arith) _ (c .before .before .before .read-settings .ensures) _ (c .before .settings .given .1)
 
--- src/lib.rt:47:1
 same-length-2 : tie.Need-same-length-2
 same-length-2 c = search needs
 
--- src/lib.rt:47:1
 returns-3 : tie.Need-returns-3
-returns-3 c = ?
+returns-3 c =
+    let a = c .before .before .before .before .before .before .before .before .before .before .args in
+    begin-refuses (a .ended) (a .code) (a .bytes .now) (a .out .now) (a .at) (omega arith) _ (c .before .before .before .before .before .before .read-settings .ensures) _ _ (c .before .before .before .before .enum-told .given .1) (c .before .before .refuse2 .ensures)
 
--- src/lib.rt:47:1
 same-length-3 : tie.Need-same-length-3
 same-length-3 c = search needs
 
--- src/lib.rt:47:1
 returns-4 : tie.Need-returns-4
-returns-4 c = ?
+returns-4 c =
+    let a = c .before .before .before .before .before .before .before .before .before .before .args in
+    begin-stays (a .ended) (a .code) (a .bytes .now) (a .out .now) (a .at) (omega arith) _ (c .before .before .before .before .before .before .read-settings .ensures) _ _ (c .before .before .before .before .enum-told2 .given .1) (c .before .before .wait-or-refuse .ensures)
 
 pub begin-spec : {M : Type 1} → statement M
 begin-spec =
