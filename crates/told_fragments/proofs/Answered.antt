@@ -2,7 +2,7 @@
 -- Assumes nothing.
 use mathlib.Core.Path.{_≡_, refl, sym, ap, subst, _∙_}
 use mathlib.Core.List.{List, [], _∷_, map, head-eq-of-cons-eq}
-use Prim.Native.Nat.{ℕ, _*_, _≤_, _<_, _/_}
+use Prim.Native.Nat.{ℕ, _+_, _*_, _≤_, _<_, _/_}
 use native.Mathlib.Omega.{arith}
 use native.Mathlib.Nat.{mul-comm}
 use lib.ListN.{length, getD, drop, length-map, length-drop}
@@ -23,7 +23,7 @@ use Rattle.audit_rules.proofs.calls.FragmentAnswer.{the-type}
 use Rattle.audit_rules.specs.declared.settings.Settings.{Settings}
 use Rattle.audit_rules.specs.Settings.{Held, auditSeed, auditOffset, roleNumber}
 use Rattle.audit_rules.specs.Observing.{MateRead, sightOf, mateGroups, mateRoom, mateRow}
-use Rattle.audit_rules.specs.Fragment.{firstOf, shareOf, testedRows}
+use Rattle.audit_rules.specs.Fragment.{Fragment, firstOf, shareOf, testedRows}
 use Rattle.audit_rules.specs.Calls.{mappingRow}
 use Rattle.audit_rules.proofs.Checking.{tested-checked}
 use Rattle.tallies.specs.Answers.{AnswerPostable}
@@ -89,7 +89,7 @@ module _ (offset : ℕ) (s : Settings) (ss : List (List ℕ)) (way : Way) (share
 
 module _ (bases baseEnds ranked ks rs os ids ends bytes : List ℕ) (head : FragmentHead) (h : Held) (entries out : List ℕ) (at : ℕ)
     (lent : TellLent bases baseEnds ranked ks rs os ids ends bytes head (h .state .settings) (h .counters) entries out at) (share : ℕ) (shared : share ≡ shareOf (h .state .settings .mode) (entryCount entries))
-    (entries′ : List ℕ) where
+    (entries′ : List ℕ) (same : length entries′ ≡ length entries) where
   abbrev ss : List (List ℕ)
   ss = rankedSequences bases baseEnds ranked
 
@@ -99,22 +99,24 @@ module _ (bases baseEnds ranked ks rs os ids ends bytes : List ℕ) (head : Frag
   abbrev second : ℕ
   second = roleNumber (head .second .role)
 
-  abbrev Seen : FragmentAnswer → Type 0
-  Seen r = TestedObserved auditOffset ss (byIndex auditSeed) ranked h (fragmentAt bytes head) r entries entries′
+  abbrev Seen : ℕ → Fragment → FragmentAnswer → Type 0
+  Seen offset f r = TestedObserved offset ss (byIndex auditSeed) ranked h f r entries entries′
 
-  accepted-lent : (r : FragmentAnswer) → Seen r → OneOf (1 ∷ 2 ∷ []) (tagOf the-type r) → AnswerLent ids ends entries′ (4 * share) r
+  abbrev Here : FragmentAnswer → Type 0
+  Here r = Seen auditOffset (fragmentAt bytes head) r
+
+  accepted-lent : (r : FragmentAnswer) → Here r → OneOf (1 ∷ 2 ∷ []) (tagOf the-type r) → AnswerLent ids ends entries′ (4 * share) r
   accepted-lent r seen tag =
       answer-named ids ends (lent .named) (h .counters) (lent .each) first second (4 * share) entries′ r
       (raisable auditOffset ss (byIndex auditSeed) ranked h (head .ordinal) (head .count) (mateAt bytes (head .first)) (mateAt bytes (head .second)) entries entries′ r seen tag
       (lent .tested .limit) (lent .tested .counters) (lent .tested .places) (sym (length-map ranked (λ p. getD (cut baseEnds bases) p []))) share shared .postable)
 
-  -- its groups stand in the entries
-  pub answer-lent : (r : FragmentAnswer) → Seen r → AnswerLent ids ends entries′ (4 * share) r
-  answer-lent (fragments.Refused n) seen = tt
-  answer-lent (fragments.Single m) seen = accepted-lent (fragments.Single m) seen (hit (1 ∷ 2 ∷ []) 1 tt)
-  answer-lent (fragments.Paired m) seen = accepted-lent (fragments.Paired m) seen (hit (1 ∷ 2 ∷ []) 2 tt)
+  here-lent : (r : FragmentAnswer) → Here r → AnswerLent ids ends entries′ (4 * share) r
+  here-lent (fragments.Refused n) seen = tt
+  here-lent (fragments.Single m) seen = accepted-lent (fragments.Single m) seen (hit (1 ∷ 2 ∷ []) 1 tt)
+  here-lent (fragments.Paired m) seen = accepted-lent (fragments.Paired m) seen (hit (1 ∷ 2 ∷ []) 2 tt)
 
-  few : (r : FragmentAnswer) → Seen r → FirstFew share r
+  few : (r : FragmentAnswer) → Here r → FirstFew share r
   few (fragments.Refused n) seen = tt
   few (fragments.Single m) seen = tt
   few (fragments.Paired m) seen =
@@ -122,16 +124,22 @@ module _ (bases baseEnds ranked ks rs os ids ends bytes : List ℕ) (head : Frag
       let z = tested-checked auditOffset ss (byIndex auditSeed) ranked h (fragmentAt bytes head) (entryCount entries) (o .0) .rooms in
       first-few auditOffset (h .state .settings) ss (byIndex auditSeed) share (fragmentAt bytes head .reads) (mappingRow (m .first)) (mappingRow (m .second) ∷ []) (o .1) (rw shared z)
 
-  module _ (same : length entries′ ≡ length entries) (r : FragmentAnswer) (seen : Seen r) where
-    -- its lines have room
-    pub answer-short : answerRoom r ≤ stepRoom
-    answer-short = answer-room ids ends entries′ share (same ∙ lent .whole) r (answer-lent r seen) (few r seen)
+  module _ (r : FragmentAnswer) (offset : ℕ) (f : Fragment) (seen : Seen offset f r) (set : offset ≡ auditOffset) (found : f ≡ fragmentAt bytes head) where
+    here : Here r
+    here = subst (λ x. Seen auditOffset x r) found (subst (λ n. Seen n f r) set seen)
+
+    short : answerRoom r ≤ stepRoom
+    short = answer-room ids ends entries′ share (same ∙ lent .whole) r (here-lent r here) (few r here)
+
+    -- its groups stand in the entries, and its lines have room
+    pub answer-lent : AnswerLent ids ends entries′ (4 * share) r × (at + answerRoom r ≤ length out)
+    answer-lent = (here-lent r here, omega (arith, lent .room, short))
 
     abbrev Written : ℕ → ℕ → List ℕ → ℕ → Type 0
     Written room width out′ end = AddsAtMost room (answerLines (cut ends ids) (head .ordinal) first second width r entries′) out at out′ end
 
-    -- and are written for parts of a stream's entries
+    -- they are written for parts of a stream's entries
     pub answer-written : (out′ : List ℕ) (end : ℕ) → Written (answerRoom r) (4 * share) out′ end → Written stepRoom (4 * shareOf (h .state .settings .mode) streamEntries) out′ end
     answer-written out′ end a =
         subst (λ w. Written stepRoom (4 * w) out′ end) (shared ∙ ap (λ n. shareOf (h .state .settings .mode) (n / 4)) (lent .whole))
-        (roomier (answerRoom r) stepRoom _ out at out′ end answer-short a)
+        (roomier (answerRoom r) stepRoom _ out at out′ end short a)

@@ -1,10 +1,10 @@
 -- `told_fragments::tell_fragment` meets its contract: the fragment is audited, and the lines of its answer are written.
 -- Assumes nothing.
+use mathlib.Core.Path.{refl}
 use native.Mathlib.Omega.{arith}
-use Rattle.scan.specs.Entries.{entryCount}
 use Rattle.audit_rules.specs.Calls.{heldOf}
 use Rattle.observing.proofs.Fragment.{known-within}
-use Rattle.told_fragments.proofs.Answered.{answer-lent, answer-short, answer-written}
+use Rattle.told_fragments.proofs.Answered.{answer-lent, answer-written}
 use borrow.Author.Needs.{needs}
 use Rattle.told_fragments.proofs.tell_fragment.Statement.{statement}
 use Rattle.told_fragments.proofs.tell_fragment.Tie as tie
@@ -15,7 +15,7 @@ share-of-requires c κs = search needs
 mul-width : tie.Need-mul-width
 mul-width c =
     let s = c .before .before .before .before .before .before .before .before .before .before .before .before .before .before .before .before .before .before in
-    omega (arith, s .pre .whole, known-within (s .args .state .settings .mode) (entryCount (s .args .entries .now)) (c .share-of .result) (c .share-of .ensures))
+    omega (arith, s .pre .whole, known-within (s .args .state .settings .mode) _ (c .share-of .result) (c .share-of .ensures))
 
 sub-audit-tested : tie.Need-sub-audit-tested
 sub-audit-tested c = search needs
@@ -61,7 +61,7 @@ put-answer-requires c κs =
     let s = c .before .before .before .before .before .before .before .before .before .before .before .before .before .before .before .before .before .before .before .before .before .before .before .before .before .before .before .before .before .before .before .before .before .before .before .before .before in
     let a = s .args in
     let t = c .before .before .before .before .before .before .before .before .before .before .audit-tested in
-    (answer-lent (a .bases .now) (a .base-ends .now) (a .ranked .now) (a .keys .now) (a .ranks .now) (a .positions .now) (a .identifiers .now) (a .identifier-ends .now) (a .bytes .now) (a .head) (heldOf (a .state) (a .placements .now) (a .singles .now) (a .multi .now)) (a .entries .now) (a .out .now) (a .at) (s .pre) (c .before .before .before .before .before .before .before .before .before .before .before .before .before .before .before .before .before .before .before .share-of .result) (c .before .before .before .before .before .before .before .before .before .before .before .before .before .before .before .before .before .before .before .share-of .ensures) (t .last .0) (t .result .answer) (t .ensures .observed), omega (arith, s .pre .room, answer-short (a .bases .now) (a .base-ends .now) (a .ranked .now) (a .keys .now) (a .ranks .now) (a .positions .now) (a .identifiers .now) (a .identifier-ends .now) (a .bytes .now) (a .head) (heldOf (a .state) (a .placements .now) (a .singles .now) (a .multi .now)) (a .entries .now) (a .out .now) (a .at) (s .pre) (c .before .before .before .before .before .before .before .before .before .before .before .before .before .before .before .before .before .before .before .share-of .result) (c .before .before .before .before .before .before .before .before .before .before .before .before .before .before .before .before .before .before .before .share-of .ensures) (t .last .0) (t .kept .0) (t .result .answer) (t .ensures .observed)))
+    answer-lent (a .bases .now) (a .base-ends .now) (a .ranked .now) (a .keys .now) (a .ranks .now) (a .positions .now) (a .identifiers .now) (a .identifier-ends .now) (a .bytes .now) (a .head) (heldOf (a .state) (a .placements .now) (a .singles .now) (a .multi .now)) (a .entries .now) (a .out .now) (a .at) (s .pre) (c .before .before .before .before .before .before .before .before .before .before .before .before .before .before .before .before .before .before .before .share-of .result) (c .before .before .before .before .before .before .before .before .before .before .before .before .before .before .before .before .before .before .before .share-of .ensures) (t .last .0) (t .kept .0) (t .result .answer) _ _ (t .ensures .observed) refl refl
 
 same-length : tie.Need-same-length
 same-length c = search needs
@@ -85,7 +85,7 @@ returns c =
     let t = c .before .before .before .before .before .before .before .before .before .before .before .before .before .audit-tested in
     record {
       audited = t .ensures;
-      adds = answer-written (a .bases .now) (a .base-ends .now) (a .ranked .now) (a .keys .now) (a .ranks .now) (a .positions .now) (a .identifiers .now) (a .identifier-ends .now) (a .bytes .now) (a .head) (heldOf (a .state) (a .placements .now) (a .singles .now) (a .multi .now)) (a .entries .now) (a .out .now) (a .at) (s .pre) (c .before .before .before .before .before .before .before .before .before .before .before .before .before .before .before .before .before .before .before .before .before .before .share-of .result) (c .before .before .before .before .before .before .before .before .before .before .before .before .before .before .before .before .before .before .before .before .before .before .share-of .ensures) (t .last .0) (t .kept .0) (t .result .answer) (t .ensures .observed) _ _ (c .before .before .put-answer .ensures);
+      adds = answer-written (a .bases .now) (a .base-ends .now) (a .ranked .now) (a .keys .now) (a .ranks .now) (a .positions .now) (a .identifiers .now) (a .identifier-ends .now) (a .bytes .now) (a .head) (heldOf (a .state) (a .placements .now) (a .singles .now) (a .multi .now)) (a .entries .now) (a .out .now) (a .at) (s .pre) (c .before .before .before .before .before .before .before .before .before .before .before .before .before .before .before .before .before .before .before .before .before .before .share-of .result) (c .before .before .before .before .before .before .before .before .before .before .before .before .before .before .before .before .before .before .before .before .before .before .share-of .ensures) (t .last .0) (t .kept .0) (t .result .answer) _ _ (t .ensures .observed) refl refl _ _ (c .before .before .put-answer .ensures);
     }
 
 pub tell-fragment-spec : {M : Type 1} → statement M
