@@ -26,9 +26,10 @@ pub fn finish_tested(
     let settings = state.settings;
     let ledger = state.ledger;
     if !books_agree(ledger, placements, singles, multi, settings) {
+        let nothing = sheet_of(zero_state());
         return Finish {
             answer: CallAnswer::Refused(18),
-            sheet: sheet_of(zero_state()),
+            sheet: nothing,
         };
     }
     Finish {
