@@ -35,8 +35,8 @@ module _ (sheet : Sheet) (k : Counters) (ns : List (List ℕ)) (ms : List ℕ) (
   refusal-added m e m′ same h = rw (e, sym same) (record { adds = h .adds; room = omega arith })
 
   -- the lines of a sheet
-  pub sheet-added : a ≡ calls.Accepted → (at′ : ℕ) → at′ ≡ at → (k′ : Counters) → k′ ≡ k → AddsAtMost (sheetRoom n) (sheetTold sheet k′ ns ms n) out at′ out′ r → AddsAtMost (sheetRoom n) (answerTold a sheet k ns ms n) out at out′ r
-  sheet-added e at′ here k′ same h = rw (e, sym here, sym same) h
+  pub sheet-added : a ≡ calls.Accepted → (at′ : ℕ) (k′ : Counters) → AddsAtMost (sheetRoom n) (sheetTold sheet k′ ns ms n) out at′ out′ r → at′ ≡ at → k′ ≡ k → AddsAtMost (sheetRoom n) (answerTold a sheet k ns ms n) out at out′ r
+  sheet-added e at′ k′ h here same = rw (e, sym here, sym same) h
 
 -- ---- the end of a run
 

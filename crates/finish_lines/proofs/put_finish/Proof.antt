@@ -2,6 +2,8 @@
 -- Assumes nothing.
 use mathlib.Core.Path.{refl}
 use native.Mathlib.Omega.{arith}
+use Rattle.lists.specs.Cut.{cut}
+use Rattle.ledger.specs.Booking.{countersOf}
 use Rattle.finish_lines.proofs.Finishing.{refusal-added, sheet-added}
 use borrow.Author.Needs.{needs}
 use Rattle.finish_lines.proofs.put_finish.Statement.{statement}
@@ -29,7 +31,10 @@ same-length-2 : tie.Need-same-length-2
 same-length-2 c = search needs
 
 returns-2 : tie.Need-returns-2
-returns-2 c = sheet-added _ _ _ _ _ _ _ _ _ _ (c .before .before .before .before .enum-told .given .1) _ (omega arith) _ refl (c .before .before .put-sheet .ensures)
+returns-2 c =
+    let a = c .before .before .before .before .before .before .before .before .before .before .before .before .before .before .args in
+    let k = countersOf (a .placements .now) (a .singles .now) (a .multi .now) in
+    sheet-added _ k (cut (a .ends .now) (a .identifiers .now)) (a .marks .now) _ _ _ _ _ _ (c .before .before .before .before .enum-told .given .1) _ _ (c .before .before .put-sheet .ensures) (omega arith) (refl {a = k})
 
 pub put-finish-spec : {M : Type 1} → statement M
 put-finish-spec =
