@@ -1,2 +1,3 @@
 pub mod Mates
 pub mod Fragments
+pub mod Longest

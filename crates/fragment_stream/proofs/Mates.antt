@@ -146,7 +146,7 @@ module _ (b : List ℕ) (at role mark k m : ℕ) (h : at + 7 ≤ length b) (four
 
 -- ---- how much a read takes
 
-same-rest : {a d : MateRead} {l m : List ℕ} → parsed a l ≡ parsed d m → l ≡ m
+pub same-rest : {A : Type 0} {a d : A} {l m : List ℕ} → parsed a l ≡ parsed d m → l ≡ m
 same-rest z = cc
 
 -- what stood before the rest is no longer than the longest read

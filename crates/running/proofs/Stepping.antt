@@ -8,21 +8,28 @@ use native.Mathlib.Omega.{arith}
 use lib.ListN.{length, drop}
 use Rattle.promises.specs.Refusal.{accepted}
 use Rattle.catalogue.specs.Catalogue.{Catalogue, names}
+use Rattle.catalogue.proofs.Checks.{bounded}
 use Rattle.index.specs.Index.{rankedSequences}
 use Rattle.answers.specs.Answer.{Row}
 use Rattle.ledger.specs.Booking.{Counters}
 use Rattle.audit_rules.specs.declared.calls.FragmentAnswer.{FragmentAnswer}
 use Rattle.audit_rules.specs.declared.calls.FragmentAnswer.the-variants as fragments
+use Rattle.audit_rules.specs.declared.calls.Finish.{Finish}
 use Rattle.audit_rules.specs.Settings.{Held, auditSeed, auditOffset}
 use Rattle.audit_rules.specs.Calls.{fragmentOutcome, mappingRow, Audits}
 use Rattle.stream.specs.Commands.{fragmentIn}
 use Rattle.stream.specs.Telling.{Refused, Short}
 use Rattle.texts.specs.Writing.{AddsAtMost}
 use Rattle.lines.specs.Lines.{refusalLine}
-use Rattle.sheet_lines.specs.Lent.{sheetRoom}
+use Rattle.sheet_lines.specs.Lent.{sheetRoom, TargetsLent}
+use Rattle.finishing.specs.Tested.{FinishesTested}
+use Rattle.finish_lines.specs.Finish.{finishLines}
+use Rattle.finish_lines.proofs.Finishing.{finish-told}
 use Rattle.fragment_stream.specs.declared.FragmentHead.{FragmentHead}
+use Rattle.fragment_stream.specs.declared.FragmentRead.{FragmentRead}
 use Rattle.fragment_stream.specs.declared.FragmentRead.the-variants as reads
 use Rattle.fragment_stream.specs.Telling.{longestFragment, FragmentTold}
+use Rattle.fragment_stream.proofs.Longest.{fragment-longest}
 use Rattle.catch_rules.specs.Job.{lentOf, running, still}
 use Rattle.catch_rules.specs.Feeding.{Ends}
 use Rattle.catch_rules.proofs.Steps.{fragment-wrong, fragment-short, run-other, bytes-behind}
@@ -34,9 +41,20 @@ use Rattle.advances.specs.Advancing.{stepRoom, Advances, Refuses, Waits, Stays}
 use Rattle.advances.proofs.Advancing.{ends-told, last-step, refuses, waits, stays}
 use Rattle.told_fragments.specs.declared.ToldFragment.{ToldFragment}
 use Rattle.told_fragments.specs.Told.{fragmentAt, TellLent, Tells}
+use Rattle.running.specs.declared.RunStep.{RunStep}
 use Rattle.running.specs.Running.{progressOf, Passes, Runs, Ran}
-use Rattle.running.proofs.Passing.{named, each-counted, lent-tested, lent-audited}
+use Rattle.running.proofs.Passing.{within-bounds, named, each-counted, lent-tested, lent-audited}
 use Rattle.running.proofs.Running.{lines, fragment-refuses, fragment-goes}
+
+-- no bytes
+pub none-there : (bytes : List ℕ) → length bytes ≡ 0 → bytes ≡ []
+none-there [] e = refl
+none-there (b ∷ bs) e = absurd (omega arith)
+
+-- a code that is known
+pub at-code : (c : Catalogue) (h : Held) (ended : Bool) (bytes out : List ℕ) (at : ℕ) (out′ : List ℕ) (r : RunStep) (k : Counters) (code known : ℕ) → code ≡ known
+    → Ran ended c h (known ∷ bytes) out at out′ r k → Ran ended c h (code ∷ bytes) out at out′ r k
+at-code c h ended bytes out at out′ r k code known e ran = subst (λ x. Ran ended c h (x ∷ bytes) out at out′ r k) (sym e) ran
 
 module _ (c : Catalogue) (ranked ks rs os : List ℕ) (h : Held) (entries : List ℕ) (lent : Runs c ranked ks rs os h entries) (ended : Bool) (bytes out : List ℕ) (at : ℕ) (out′ : List ℕ) where
   -- ---- steps behind which nothing has changed
@@ -45,12 +63,14 @@ module _ (c : Catalogue) (ranked ks rs os : List ℕ) (h : Held) (entries : List
   ran-refused : (first : List ℕ) (number : ℕ) (a : Advance) → Refuses number out at out′ a → Ends (running c h) first (refusalLine number) → Ran ended c h first out at out′ (record { advance = a; state = h .state }) (h .counters)
   ran-refused first number a f e = record { advances = refuses (running c h) (running c h) first out at out′ a ended number f e; still-passes = lent .passes }
 
-  pub fragment-wrong-ran : (a : Advance) → Refuses 20 out at out′ a → Refused fragmentIn bytes → Ran ended c h (3 ∷ bytes) out at out′ (record { advance = a; state = h .state }) (h .counters)
-  fragment-wrong-ran a f e = ran-refused (3 ∷ bytes) 20 a f (fragment-wrong c h bytes e)
+  module _ (x : FragmentRead) (told : FragmentTold bytes x) where
+    pub fragment-wrong-ran : x ≡ reads.Wrong → (a : Advance) → Refuses 20 out at out′ a → Ran ended c h (3 ∷ bytes) out at out′ (record { advance = a; state = h .state }) (h .counters)
+    fragment-wrong-ran e a f = ran-refused (3 ∷ bytes) 20 a f (fragment-wrong c h bytes (subst (FragmentTold bytes) e told))
 
-  pub fragment-short-ran : (a : Advance) → Stays ended out at out′ a → Short fragmentIn bytes longestFragment → Ran ended c h (3 ∷ bytes) out at out′ (record { advance = a; state = h .state }) (h .counters)
-  fragment-short-ran a s e =
-      record { advances = stays (running c h) (3 ∷ bytes) out at out′ a (omega (arith, e .few)) ended s (fragment-short c h bytes (e .ended)); still-passes = lent .passes }
+    pub fragment-short-ran : x ≡ reads.More → (a : Advance) → Stays ended out at out′ a → Ran ended c h (3 ∷ bytes) out at out′ (record { advance = a; state = h .state }) (h .counters)
+    fragment-short-ran e a s =
+        let w : Short fragmentIn bytes longestFragment = subst (FragmentTold bytes) e told in
+        record { advances = stays (running c h) (3 ∷ bytes) out at out′ a (omega (arith, w .few)) ended s (fragment-short c h bytes (w .ended)); still-passes = lent .passes }
 
   -- neither 03 nor 05
   pub other-ran : (code : ℕ) → (code ≡ 3 → ⊥) → (code ≡ 5 → ⊥) → (a : Advance) → Refuses 20 out at out′ a → Ran ended c h (code ∷ bytes) out at out′ (record { advance = a; state = h .state }) (h .counters)
@@ -73,16 +93,32 @@ module _ (c : Catalogue) (ranked ks rs os : List ℕ) (h : Held) (entries : List
       }
 
   -- 05 and the end of the stream
-  pub finish-ran : ended ≡ true → bytes ≡ [] → (text : List ℕ) → text ≡ still (running c h) (5 ∷ []) → (end : ℕ) → AddsAtMost (sheetRoom (length (c .identifierEnds))) text out at out′ end
+  pub finish-lent : at + stepRoom ≤ length out
+      → TargetsLent (c .identifiers) (c .identifierEnds) (c .marks) (h .counters .placements) (h .counters .singles) (h .counters .multi) (length (c .identifierEnds)) × (at + sheetRoom (length (c .identifierEnds)) ≤ length out)
+  finish-lent room =
+      let k = each-counted c h (lent .passes) in
+      let m = bounded c (within-bounds c h (lent .passes)) .marked in
+      (record { named = named c h (lent .passes); ended = omega arith; marked = omega (arith, m); placed = omega (arith, k .0); single = omega (arith, k .1); several = omega (arith, k .2) }, omega (arith, lent .few))
+
+  pub finish-ran : ended ≡ true → bytes ≡ [] → (r : Finish) → FinishesTested h r → (end : ℕ)
+      → AddsAtMost (sheetRoom (length (c .identifierEnds))) (finishLines r (h .counters) (names c) (c .marks) (length (c .identifierEnds))) out at out′ end
       → Ran ended c h (5 ∷ bytes) out at out′ (record { advance = record { at = end; progress = progress.Ended }; state = h .state }) (h .counters)
-  finish-ran e none text is end adds =
+  finish-ran e none r finishes end adds =
       let a : Advance = record { at = end; progress = progress.Ended } in
-      let told : Advances true (running c h) (5 ∷ []) out at out′ a (running c h) = last-step (running c h) (running c h) (5 ∷ []) out at out′ a true (sheetRoom (length (c .identifierEnds))) text (omega (arith, lent .few)) adds refl (sym is) in
+      let is = finish-told c (within-bounds c h (lent .passes)) h (lent .passes) r finishes in
+      let told : Advances true (running c h) (5 ∷ []) out at out′ a (running c h) = last-step (running c h) (running c h) (5 ∷ []) out at out′ a true (sheetRoom (length (c .identifierEnds))) _ (omega (arith, lent .few)) adds refl (sym is) in
       record { advances = subst₂ (λ b bs. Advances b (running c h) (5 ∷ bs) out at out′ a (running c h)) (sym e) (sym none) told; still-passes = lent .passes }
 
   -- ---- a fragment
 
-  module _ (head : FragmentHead) (read : FragmentTold bytes (reads.Read head)) where
+  module _ (x : FragmentRead) (told : FragmentTold bytes x) (head : FragmentHead) (e : x ≡ reads.Read head) where
+    read : FragmentTold bytes (reads.Read head)
+    read = subst (FragmentTold bytes) e told
+
+    -- its bytes can be counted
+    pub end-most : head .end ≤ longestFragment
+    end-most = fragment-longest bytes (fragmentAt bytes head) (head .end) (read .0)
+
     pub tell-lent : at + stepRoom ≤ length out
         → TellLent (c .bases) (c .baseEnds) ranked ks rs os (c .identifiers) (c .identifierEnds) bytes head (h .state .settings) (h .counters) entries out at
     tell-lent room =
@@ -107,26 +143,26 @@ module _ (c : Catalogue) (ranked ks rs os : List ℕ) (h : Held) (entries : List
       text = lines c ranked ks rs os h entries lent bytes head (read .0) (t .audit) k entries′ audits
 
       ran-accepted : (rows : List Row) → fragmentOutcome (t .audit .answer) ≡ accepted rows → (p : Progress) → p ≡ progress.Went (suc (head .end)) → Ran ended c h (3 ∷ bytes) out at out′ (record { advance = record { at = t .end; progress = p }; state = t .audit .state }) k
-      ran-accepted rows told p e =
-          let w = fragment-goes c ranked ks rs os h entries lent bytes head (read .0) (t .audit) k entries′ audits rows told in
+      ran-accepted rows f p g =
+          let w = fragment-goes c ranked ks rs os h entries lent bytes head (read .0) (t .audit) k entries′ audits rows f in
           record {
-            advances = record { text = text; adds = tells .adds; told = subst (λ x. advancing.Tells ended (running c h) (3 ∷ bytes) x text (running c after)) (sym e) (omega (arith, read .0 .within), w .0) };
+            advances = record { text = text; adds = tells .adds; told = subst (λ x. advancing.Tells ended (running c h) (3 ∷ bytes) x text (running c after)) (sym g) (omega (arith, read .0 .within), w .0) };
             still-passes = w .1;
           }
 
       pub fragment-ran : (n : ℕ) → n ≡ 1 + head .end → (p : Progress) → p ≡ progressOf (t .audit .answer) n → Ran ended c h (3 ∷ bytes) out at out′ (record { advance = record { at = t .end; progress = p }; state = t .audit .state }) k
-      fragment-ran n m p e = go (t .audit .answer) refl
+      fragment-ran n m p q = go (t .audit .answer) refl
         where
           size : n ≡ suc (head .end)
           size = omega (arith, m)
 
           go : (x : FragmentAnswer) → t .audit .answer ≡ x → Ran ended c h (3 ∷ bytes) out at out′ (record { advance = record { at = t .end; progress = p }; state = t .audit .state }) k
-          go (fragments.Single x) a = ran-accepted (mappingRow x ∷ []) (ap fragmentOutcome a) p (e ∙ ap (λ y. progressOf y n) a ∙ ap progress.Went size)
-          go (fragments.Paired x) a = ran-accepted (mappingRow (x .first) ∷ mappingRow (x .second) ∷ []) (ap fragmentOutcome a) p (e ∙ ap (λ y. progressOf y n) a ∙ ap progress.Went size)
+          go (fragments.Single x) a = ran-accepted (mappingRow x ∷ []) (ap fragmentOutcome a) p (q ∙ ap (λ y. progressOf y n) a ∙ ap progress.Went size)
+          go (fragments.Paired x) a = ran-accepted (mappingRow (x .first) ∷ mappingRow (x .second) ∷ []) (ap fragmentOutcome a) p (q ∙ ap (λ y. progressOf y n) a ∙ ap progress.Went size)
           go (fragments.Refused number) a =
               let w = fragment-refuses c ranked ks rs os h entries lent bytes head (read .0) (t .audit) k entries′ audits number a in
               let ends : Ends (running c h) (3 ∷ bytes) text = rw a (w .0) in
               record {
-                advances = record { text = text; adds = tells .adds; told = subst (λ x. advancing.Tells ended (running c h) (3 ∷ bytes) x text (running c after)) (sym (e ∙ ap (λ y. progressOf y n) a)) (ends-told (running c h) (running c after) (3 ∷ bytes) out at out′ (record { at = t .end; progress = p }) ended text ends) };
+                advances = record { text = text; adds = tells .adds; told = subst (λ x. advancing.Tells ended (running c h) (3 ∷ bytes) x text (running c after)) (sym (q ∙ ap (λ y. progressOf y n) a)) (ends-told (running c h) (running c after) (3 ∷ bytes) out at out′ (record { at = t .end; progress = p }) ended text ends) };
                 still-passes = subst (Passes c) (sym (w .1)) (lent .passes);
               }

@@ -32,10 +32,11 @@ pub struct RunStep {
 fn progress_of(answer: FragmentAnswer, n: usize) -> Progress
     ensures { λ r. ⌜ r ≡ progressOf answer n ⌝ }
 {
-    let FragmentAnswer::Refused(number) = answer else {
-        return Progress::Went(n);
-    };
-    Progress::Ended
+    match answer {
+        FragmentAnswer::Refused(number) => Progress::Ended,
+        FragmentAnswer::Single(mapping) => Progress::Went(n),
+        FragmentAnswer::Paired(mates) => Progress::Went(n),
+    }
 }
 
 // A fragment, 03 in front of the bytes. The marks are lent since they belong to the catalogue that is promised of.
@@ -158,35 +159,41 @@ pub fn run(
             state,
         );
     }
-    if code != 5 || 0 < bytes.len() {
+    if code != 5 {
         return RunStep {
             advance: refuse(out, at, 20),
             state,
         };
     }
-    if !ended {
+    if 0 < bytes.len() {
         return RunStep {
-            advance: wait(at),
+            advance: refuse(out, at, 20),
             state,
         };
     }
-    let finish = finish_tested(placements, singles, multi, state);
-    let end = put_finish(
-        out,
-        at,
-        identifiers,
-        identifier_ends,
-        marks,
-        placements,
-        singles,
-        multi,
-        finish,
-    );
+    if ended {
+        let finish = finish_tested(placements, singles, multi, state);
+        let end = put_finish(
+            out,
+            at,
+            identifiers,
+            identifier_ends,
+            marks,
+            placements,
+            singles,
+            multi,
+            finish,
+        );
+        return RunStep {
+            advance: Advance {
+                at: end,
+                progress: Progress::Ended,
+            },
+            state,
+        };
+    }
     RunStep {
-        advance: Advance {
-            at: end,
-            progress: Progress::Ended,
-        },
+        advance: wait(at),
         state,
     }
 }

@@ -1,89 +1,85 @@
+-- `running::run_fragment` meets its contract: refused, or more is needed, or a fragment is audited and its lines are written.
+-- Assumes nothing.
+use mathlib.Core.Path.{refl}
+use native.Mathlib.Omega.{arith}
+use Rattle.audit_rules.specs.Calls.{heldOf}
+use Rattle.running.specs.Running.{catalogueOf}
+use Rattle.running.proofs.Stepping.{end-most, tell-lent, fragment-wrong-ran, fragment-short-ran, fragment-ran}
 use borrow.Author.Needs.{needs}
 use Rattle.running.proofs.run_fragment.Statement.{statement}
 use Rattle.running.proofs.run_fragment.Tie as tie
-use Rattle.running.proofs.run_fragment.Reads as reads
-use Rattle.running.proofs.run_fragment.Lts as lts
-use Rattle.advances.proofs.refuse.Reads as refuse-reads
-use Rattle.advances.proofs.wait_or_refuse.Reads as wait-or-refuse-reads
-use Rattle.fragment_stream.proofs.read_fragment.Reads as read-fragment-reads
-use Rattle.running.proofs.progress_of.Reads as progress-of-reads
-use Rattle.told_fragments.proofs.tell_fragment.Reads as tell-fragment-reads
 
--- src/lib.rt:67:11
 read-fragment-requires : tie.Need-read-fragment-requires
 read-fragment-requires c κs = search needs
 
--- src/lib.rt:69:29
 enum-told : tie.Need-enum-told
 enum-told c = search needs
 
--- src/lib.rt:69:22
 refuse-requires : tie.Need-refuse-requires
 refuse-requires c κs = search needs
 
--- src/lib.rt:73:37
 enum-told-2 : tie.Need-enum-told-2
 enum-told-2 c = search needs
 
--- src/lib.rt:73:22
 wait-or-refuse-requires : tie.Need-wait-or-refuse-requires
 wait-or-refuse-requires c κs = search needs
 
--- src/lib.rt:76:28
 enum-known-head : tie.Need-enum-known-head
 enum-known-head c = search needs
 
--- src/lib.rt:77:21
 add-n : tie.Need-add-n
-add-n c = ?
+add-n c = 
+    let s = c .before .before .before .before .before .before .before .before .before .before .before .before .before .before .before .before .before .before .before .before in
+    let a = s .args in
+    omega (arith, end-most (catalogueOf (a .identifiers .now) (a .identifier-ends .now) (a .bases .now) (a .base-ends .now) (a .marks .now)) (a .ranked .now) (a .keys .now) (a .ranks .now) (a .positions .now) (heldOf (a .state) (a .placements .now) (a .singles .now) (a .multi .now)) (a .entries .now) (s .pre .0) (a .ended) (a .bytes .now) (a .out .now) (a .at) (a .out .now) _ (c .before .before .before .before .read-fragment .ensures) _ (c .before .before .head .given .1))
 
--- src/lib.rt:78:17
 tell-fragment-requires : tie.Need-tell-fragment-requires
-tell-fragment-requires c κs = ?
+tell-fragment-requires c κs = 
+    let s = c .before .before .before .before .before .before .before .before .before .before .before .before .before .before .before .before .before .before .before .before .before .before .before .before .before in
+    let a = s .args in
+    tell-lent (catalogueOf (a .identifiers .now) (a .identifier-ends .now) (a .bases .now) (a .base-ends .now) (a .marks .now)) (a .ranked .now) (a .keys .now) (a .ranks .now) (a .positions .now) (heldOf (a .state) (a .placements .now) (a .singles .now) (a .multi .now)) (a .entries .now) (s .pre .0) (a .ended) (a .bytes .now) (a .out .now) (a .at) (a .out .now) _ (c .before .before .before .before .before .before .before .before .before .read-fragment .ensures) _ (c .before .before .before .before .before .before .before .head .given .1) (s .pre .1)
 
--- src/lib.rt:100:17
 progress-of-requires : tie.Need-progress-of-requires
 progress-of-requires c κs = search needs
 
--- src/lib.rt:42:1
 same-length : tie.Need-same-length
 same-length c = search needs
 
--- src/lib.rt:42:1
 returns : tie.Need-returns
-returns c = ?
+returns c = 
+    let s = c .before .before .before .before .before .before .before .before .before .before .before .before .before .before .before .before .before .before .before .before .before .before in
+    let a = s .args in
+    fragment-wrong-ran (catalogueOf (a .identifiers .now) (a .identifier-ends .now) (a .bases .now) (a .base-ends .now) (a .marks .now)) (a .ranked .now) (a .keys .now) (a .ranks .now) (a .positions .now) (heldOf (a .state) (a .placements .now) (a .singles .now) (a .multi .now)) (a .entries .now) (s .pre .0) (a .ended) (a .bytes .now) (a .out .now) (a .at) _ _ (c .before .before .before .before .before .before .read-fragment .ensures) (c .before .before .before .before .enum-told .given .1) _ (c .before .before .refuse .ensures)
 
--- src/lib.rt:42:1
 same-length-2 : tie.Need-same-length-2
 same-length-2 c = search needs
 
--- src/lib.rt:42:1
 returns-2 : tie.Need-returns-2
-returns-2 c = ?
+returns-2 c = 
+    let s = c .before .before .before .before .before .before .before .before .before .before .before .before .before .before .before .before .before .before .before .before .before .before in
+    let a = s .args in
+    fragment-short-ran (catalogueOf (a .identifiers .now) (a .identifier-ends .now) (a .bases .now) (a .base-ends .now) (a .marks .now)) (a .ranked .now) (a .keys .now) (a .ranks .now) (a .positions .now) (heldOf (a .state) (a .placements .now) (a .singles .now) (a .multi .now)) (a .entries .now) (s .pre .0) (a .ended) (a .bytes .now) (a .out .now) (a .at) _ _ (c .before .before .before .before .before .before .read-fragment .ensures) (c .before .before .before .before .enum-told2 .given .1) _ (c .before .before .wait-or-refuse .ensures)
 
--- src/lib.rt:42:1
 same-length-3 : tie.Need-same-length-3
 same-length-3 c = search needs
 
--- src/lib.rt:42:1
 same-length-4 : tie.Need-same-length-4
 same-length-4 c = search needs
 
--- src/lib.rt:42:1
 same-length-5 : tie.Need-same-length-5
 same-length-5 c = search needs
 
--- src/lib.rt:42:1
 same-length-6 : tie.Need-same-length-6
 same-length-6 c = search needs
 
--- src/lib.rt:42:1
 same-length-7 : tie.Need-same-length-7
 same-length-7 c = search needs
 
--- src/lib.rt:42:1
 returns-3 : tie.Need-returns-3
-returns-3 c = ?
+returns-3 c = 
+    let s = c .before .before .before .before .before .before .before .before .before .before .before .before .before .before .before .before .before .before .before .before .before .before .before .before .before .before .before .before .before .before .before .before .before .before .before .before .before .before .before in
+    let a = s .args in
+    fragment-ran (catalogueOf (a .identifiers .now) (a .identifier-ends .now) (a .bases .now) (a .base-ends .now) (a .marks .now)) (a .ranked .now) (a .keys .now) (a .ranks .now) (a .positions .now) (heldOf (a .state) (a .placements .now) (a .singles .now) (a .multi .now)) (a .entries .now) (s .pre .0) (a .ended) (a .bytes .now) (a .out .now) (a .at) _ _ (c .before .before .before .before .before .before .before .before .before .before .before .before .before .before .before .before .before .before .before .before .before .before .before .read-fragment .ensures) _ (c .before .before .before .before .before .before .before .before .before .before .before .before .before .before .before .before .before .before .before .before .before .head .given .1) _ _ _ (c .before .before .before .before .before .before .before .before .before .before .before .before .before .tell-fragment .ensures) _ refl _ (c .progress-of .ensures)
 
 pub run-fragment-spec : {M : Type 1} → statement M
 run-fragment-spec =
