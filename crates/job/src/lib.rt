@@ -144,6 +144,7 @@ pub fn advance(
     let held = job.supply;
     let indexed = job.indexed;
     let state = job.state;
+    let settings = state.settings;
     let targets = held.targets;
     let names = held.names;
     let count = held.bases;
@@ -166,14 +167,16 @@ pub fn advance(
                     ended,
                     held,
                 );
+                let supply = supplied.supply;
+                let advance = supplied.advance;
                 return Advanced {
                     job: Job {
                         stage,
-                        supply: supplied.supply,
+                        supply,
                         indexed,
                         state,
                     },
-                    advance: supplied.advance,
+                    advance,
                 };
             }
             let opened = open(
@@ -192,7 +195,7 @@ pub fn advance(
                 &marks[..targets],
                 at,
                 code,
-                state.settings,
+                settings,
             );
             opened_job(at, job, opened)
         }
@@ -220,14 +223,16 @@ pub fn advance(
                 ended,
                 state,
             );
+            let state = step.state;
+            let advance = step.advance;
             Advanced {
                 job: Job {
                     stage,
                     supply: held,
                     indexed,
-                    state: step.state,
+                    state,
                 },
-                advance: step.advance,
+                advance,
             }
         }
     }
