@@ -21,7 +21,7 @@ pub roomier : (most more : ℕ) (text out : List ℕ) (at : ℕ) (out′ : List 
 roomier most more text out at out′ r h a = record { adds = a .adds; room = omega (arith, a .room) }
 
 -- nothing is added where nothing changes
-nothing-added : (out : List ℕ) (at : ℕ) → AddsAtMost stepRoom [] out at out at
+pub nothing-added : (out : List ℕ) (at : ℕ) → AddsAtMost stepRoom [] out at out at
 nothing-added out at = record { adds = record { written = sym (append-nil (take at out)); end = omega arith }; room = omega arith }
 
 module _ (before after : Stage) (bytes out : List ℕ) (at : ℕ) (out′ : List ℕ) (r : Advance) where

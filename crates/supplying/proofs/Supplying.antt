@@ -116,7 +116,7 @@ module _ (held : Supply) (is ies bs bes ms : List ℕ) (kept : SupplyKept held i
           marks = lm ∙ kept .marks;
         })
 
-    -- where it is stored as it stands, the step goes to where it ends
+    -- where it is stored as it stands, the run goes on with it where it ends
     module _ (n k : ℕ) (c′ : Catalogue) (stored : c′ ≡ withTarget c (h .topology) (window bytes 6 n) (window bytes (6 + h .name) k)) (named : n ≡ h .name) (based : k ≡ h .count) where
       same-target : c′ ≡ targetAt c bytes h
       same-target = stored ∙ rw (named, based) refl
@@ -125,11 +125,9 @@ module _ (held : Supply) (is ies bs bes ms : List ℕ) (kept : SupplyKept held i
         behind-target : drop (6 + h .name + h .count) bytes ≡ drop end (2 ∷ bytes)
         behind-target = let e : suc (6 + h .name + h .count) ≡ end = omega arith in ap (λ m. drop m (2 ∷ bytes)) e
 
-        pub supply-goes : (ended : Bool) (out : List ℕ) (at : ℕ) (s : Settings) → Advances ended (supplying s c) (2 ∷ bytes) out at out (went at end) (supplying s c′)
-        supply-goes ended out at s =
-            let p = as-told (targets.Read h) read .0 in
-            let g = subst (Goes (supplying s c) (2 ∷ bytes) [] (supplying s (targetAt c bytes h))) behind-target (supply-read s c bytes (targetAt c bytes h) (6 + h .name + h .count) p) in
-            rw same-target (goes-on (supplying s c) (supplying s (targetAt c bytes h)) (2 ∷ bytes) out at out ended end refl (omega (arith, p .within)) g)
+        pub supply-goes : (s : Settings) → Goes (supplying s c) (2 ∷ bytes) [] (supplying s c′) (drop end (2 ∷ bytes))
+        supply-goes s =
+            rw same-target (subst (Goes (supplying s c) (2 ∷ bytes) [] (supplying s (targetAt c bytes h))) behind-target (supply-read s c bytes (targetAt c bytes h) (6 + h .name + h .count) (as-told (targets.Read h) read .0)))
 
 -- ---- the opening
 

@@ -1,9 +1,11 @@
 -- `supplying::supply` meets its contract: the step is as the target is read, and one that is read is stored behind the others.
 -- Assumes nothing.
+use mathlib.Core.List.{[]}
 use Prim.Native.Nat.{_+_, _-_}
 use native.Mathlib.Omega.{arith}
 use lib.ListN.{length-take}
 use Rattle.supplies.specs.Supplied.{suppliedIn}
+use Rattle.advances.proofs.Advancing.{nothing-added}
 use Rattle.supplying.proofs.Supplying.{target-there, target-fitting, supply-refuses, supply-stays, supply-goes, kept-more}
 use borrow.Author.Needs.{needs}
 use Rattle.supplying.proofs.supply.Statement.{statement}
@@ -129,7 +131,14 @@ returns-3 c =
     let n = h .0 .0 .name in
     let m = h .0 .0 .count in
     let k = c .before .before .before .before .before .before .before .before .before .before .store-target in
-    (supply-goes (a .held) (a .identifiers .now) (a .identifier-ends .now) (a .bases .now) (a .base-ends .now) (a .marks .now) (s .pre .0) (a .bytes .now) _ (c .before .before .before .before .before .before .before .before .before .before .before .before .before .before .before .before .before .before .before .before .before .before .before .read-target .ensures) _ (h .1) (6 + n - 6) (6 + n + m - (6 + n)) (suppliedIn (k .result) (k .last .0) (k .last .1 .0) (k .last .1 .1 .0) (k .last .1 .1 .1 .0) (k .last .1 .1 .1 .1 .0)) (k .ensures .0) (omega arith) (omega arith) (1 + (6 + n + m)) (omega arith) (a .ended) (a .out .now) (a .at), kept-more (a .held) (a .identifiers .now) (a .identifier-ends .now) (a .bases .now) (a .base-ends .now) (a .marks .now) (s .pre .0) (a .bytes .now) _ (c .before .before .before .before .before .before .before .before .before .before .before .before .before .before .before .before .before .before .before .before .before .before .before .read-target .ensures) _ (h .1) (k .result) (k .last .0) (k .last .1 .0) (k .last .1 .1 .0) (k .last .1 .1 .1 .0) (k .last .1 .1 .1 .1 .0) (6 + n - 6) (6 + n + m - (6 + n)) _ _ (omega arith) (omega arith) (k .ensures .1) (k .kept .0) (k .kept .1 .0) (k .kept .1 .1 .0) (k .kept .1 .1 .1 .0) (k .kept .1 .1 .1 .1 .0))
+    let l = target-there (a .held) (a .identifiers .now) (a .identifier-ends .now) (a .bases .now) (a .base-ends .now) (a .marks .now) (s .pre .0) (a .bytes .now) _ (c .before .before .before .before .before .before .before .before .before .before .before .before .before .before .before .before .before .before .before .before .before .before .before .read-target .ensures) _ (h .1) in (
+      λ t. record {
+        text = [];
+        adds = nothing-added (a .out .now) (a .at);
+        told = (omega (arith, l), supply-goes (a .held) (a .identifiers .now) (a .identifier-ends .now) (a .bases .now) (a .base-ends .now) (a .marks .now) (s .pre .0) (a .bytes .now) _ (c .before .before .before .before .before .before .before .before .before .before .before .before .before .before .before .before .before .before .before .before .before .before .before .read-target .ensures) _ (h .1) (6 + n - 6) (6 + n + m - (6 + n)) (suppliedIn (k .result) (k .last .0) (k .last .1 .0) (k .last .1 .1 .0) (k .last .1 .1 .1 .0) (k .last .1 .1 .1 .1 .0)) (k .ensures .0) (omega arith) (omega arith) (1 + (6 + n + m)) (omega arith) t);
+      },
+      kept-more (a .held) (a .identifiers .now) (a .identifier-ends .now) (a .bases .now) (a .base-ends .now) (a .marks .now) (s .pre .0) (a .bytes .now) _ (c .before .before .before .before .before .before .before .before .before .before .before .before .before .before .before .before .before .before .before .before .before .before .before .read-target .ensures) _ (h .1) (k .result) (k .last .0) (k .last .1 .0) (k .last .1 .1 .0) (k .last .1 .1 .1 .0) (k .last .1 .1 .1 .1 .0) (6 + n - 6) (6 + n + m - (6 + n)) _ _ (omega arith) (omega arith) (k .ensures .1) (k .kept .0) (k .kept .1 .0) (k .kept .1 .1 .0) (k .kept .1 .1 .1 .0) (k .kept .1 .1 .1 .1 .0),
+    )
 
 pub supply-spec : {M : Type 1} → statement M
 supply-spec =
