@@ -65,7 +65,7 @@ module _ (ids ends : List ℕ) (named : NamesLent ids ends) (k : Counters) (each
 -- ---- the room of its lines
 
 -- the first of two reads has no more groups than its share
-abbrev pub FirstFew : ℕ → FragmentAnswer → Type 0
+abbrev FirstFew : ℕ → FragmentAnswer → Type 0
 FirstFew share (fragments.Refused n) = Unit {0}
 FirstFew share (fragments.Single m) = Unit {0}
 FirstFew share (fragments.Paired m) = m .first .groups ≤ share
@@ -85,7 +85,7 @@ module _ (offset : ℕ) (s : Settings) (ss : List (List ℕ)) (way : Way) (share
   first-few [] x xs e z = absurd (omega (arith, ap length e))
   first-few (r ∷ rs) x xs e z = subst (λ (y : Row). y .groups ≤ share) (head-eq-of-cons-eq e) (mate-few r (none-first (mateRoom offset s ss share r) (firstOf (mateRoom offset s ss share) rs) z))
 
--- ---- an audited fragment, with whatever offset and way
+-- ---- an audited fragment, whatever was audited
 
 module _ (bases baseEnds ranked ks rs os ids ends bytes : List ℕ) (head : FragmentHead) (h : Held) (entries out : List ℕ) (at : ℕ)
     (lent : TellLent bases baseEnds ranked ks rs os ids ends bytes head (h .state .settings) (h .counters) entries out at) (share : ℕ) (shared : share ≡ shareOf (h .state .settings .mode) (entryCount entries))
@@ -96,7 +96,7 @@ module _ (bases baseEnds ranked ks rs os ids ends bytes : List ℕ) (head : Frag
   abbrev Seen : Fragment → FragmentAnswer → Type 0
   Seen f r = TestedObserved offset ss way ranked h f r entries entries′
 
-  -- accepted, every check has passed, and each read has a row
+  -- accepted, it is not refused, and each read has a row
   module _ (f : Fragment) (r : FragmentAnswer) (rows : List Row) (seen : Seen f r) (told : fragmentOutcome r ≡ accepted rows) where
     unrefused : (testedRefusal offset ss way ranked h f (entryCount entries) ≡ 0) × (testedRows offset ss way ranked h f ≡ rows)
     unrefused = outcome-accepted (testedRefusal offset ss way ranked h f (entryCount entries)) (testedRows offset ss way ranked h f) rows (sym (seen .answer) ∙ told)
@@ -104,20 +104,22 @@ module _ (bases baseEnds ranked ks rs os ids ends bytes : List ℕ) (head : Frag
     as-many : length (f .reads) ≡ length rows
     as-many = sym (length-map (f .reads) (mateRow offset (h .state .settings) ss way)) ∙ ap length (unrefused .1)
 
-  pair-lent : (ordinal count : ℕ) (m m′ : MateRead) (r : FragmentAnswer) → Seen (fragmentOf ordinal count m m′) r → OneOf (1 ∷ 2 ∷ []) (tagOf the-type r) → AnswerLent ids ends entries′ (4 * share) r
-  pair-lent ordinal count m m′ r seen tag =
+  -- accepted, as its reads were lent
+  accepted-lent : (ordinal count : ℕ) (m m′ : MateRead) (r : FragmentAnswer) → Seen (fragmentOf ordinal count m m′) r → OneOf (1 ∷ 2 ∷ []) (tagOf the-type r) → AnswerLent ids ends entries′ (4 * share) r
+  accepted-lent ordinal count m m′ r seen tag =
       answer-named ids ends (lent .named) (h .counters) (lent .each) (roleNumber (m .role)) (roleNumber (m′ .role)) (4 * share) entries′ r
       (raisable offset ss way ranked h ordinal count m m′ entries entries′ r seen tag
       (lent .tested .limit) (lent .tested .counters) (lent .tested .places) (sym (length-map ranked (λ p. getD (cut baseEnds bases) p []))) share shared .postable)
 
+  -- with whatever reads: there are as many as are told
   reads-lent : (ordinal : ℕ) (reads : List MateRead) (r : FragmentAnswer) → Seen (record { ordinal = ordinal; reads = reads }) r → AnswerLent ids ends entries′ (4 * share) r
   reads-lent ordinal reads (fragments.Refused n) seen = tt
   reads-lent ordinal [] (fragments.Single a) seen = absurd (omega (arith, as-many _ (fragments.Single a) (mappingRow a ∷ []) seen refl))
-  reads-lent ordinal (m ∷ []) (fragments.Single a) seen = pair-lent ordinal 1 m m (fragments.Single a) seen (hit (1 ∷ 2 ∷ []) 1 tt)
+  reads-lent ordinal (m ∷ []) (fragments.Single a) seen = accepted-lent ordinal 1 m m (fragments.Single a) seen (hit (1 ∷ 2 ∷ []) 1 tt)
   reads-lent ordinal (m ∷ m′ ∷ ms) (fragments.Single a) seen = absurd (omega (arith, as-many _ (fragments.Single a) (mappingRow a ∷ []) seen refl))
   reads-lent ordinal [] (fragments.Paired a) seen = absurd (omega (arith, as-many _ (fragments.Paired a) (mappingRow (a .first) ∷ mappingRow (a .second) ∷ []) seen refl))
   reads-lent ordinal (m ∷ []) (fragments.Paired a) seen = absurd (omega (arith, as-many _ (fragments.Paired a) (mappingRow (a .first) ∷ mappingRow (a .second) ∷ []) seen refl))
-  reads-lent ordinal (m ∷ m′ ∷ []) (fragments.Paired a) seen = pair-lent ordinal 2 m m′ (fragments.Paired a) seen (hit (1 ∷ 2 ∷ []) 2 tt)
+  reads-lent ordinal (m ∷ m′ ∷ []) (fragments.Paired a) seen = accepted-lent ordinal 2 m m′ (fragments.Paired a) seen (hit (1 ∷ 2 ∷ []) 2 tt)
   reads-lent ordinal (m ∷ m′ ∷ m″ ∷ ms) (fragments.Paired a) seen = absurd (omega (arith, as-many _ (fragments.Paired a) (mappingRow (a .first) ∷ mappingRow (a .second) ∷ []) seen refl))
 
   few : (f : Fragment) (r : FragmentAnswer) → Seen f r → FirstFew share r
