@@ -9,10 +9,11 @@ use lib.ListN.{length, getD, drop, length-map, length-drop}
 use types.Run.{OneOf, hit}
 use denote.Enum.Declared.{tagOf}
 use Rattle.lists.specs.Cut.{cut}
+use Rattle.promises.specs.Refusal.{accepted}
 use Rattle.promises.proofs.Refusing.{none-first, outcome-accepted}
 use Rattle.index.specs.Index.{rankedSequences}
 use Rattle.scan.specs.Entries.{entryCount}
-use Rattle.index_search.specs.Work.{Way, byIndex}
+use Rattle.index_search.specs.Work.{Way}
 use Rattle.answers.specs.Answer.{Row}
 use Rattle.search.proofs.Parts.{listed-room}
 use Rattle.ledger.specs.Booking.{Counters}
@@ -21,10 +22,10 @@ use Rattle.audit_rules.specs.declared.calls.FragmentAnswer.{FragmentAnswer}
 use Rattle.audit_rules.specs.declared.calls.FragmentAnswer.the-variants as fragments
 use Rattle.audit_rules.proofs.calls.FragmentAnswer.{the-type}
 use Rattle.audit_rules.specs.declared.settings.Settings.{Settings}
-use Rattle.audit_rules.specs.Settings.{Held, auditSeed, auditOffset, roleNumber}
+use Rattle.audit_rules.specs.Settings.{Held, roleNumber}
 use Rattle.audit_rules.specs.Observing.{MateRead, sightOf, mateGroups, mateRoom, mateRow}
-use Rattle.audit_rules.specs.Fragment.{Fragment, firstOf, shareOf, testedRows}
-use Rattle.audit_rules.specs.Calls.{mappingRow}
+use Rattle.audit_rules.specs.Fragment.{Fragment, firstOf, shareOf, testedRefusal, testedRows}
+use Rattle.audit_rules.specs.Calls.{mappingRow, fragmentOutcome, fragmentOf}
 use Rattle.audit_rules.proofs.Checking.{tested-checked}
 use Rattle.tallies.specs.Answers.{AnswerPostable}
 use Rattle.ranked_reads.proofs.Seeing.{sight-listed}
@@ -34,11 +35,10 @@ use Rattle.texts.specs.Writing.{AddsAtMost}
 use Rattle.sheet_lines.specs.Lent.{NamesLent, EntriesLent}
 use Rattle.fragment_lines.specs.Answer.{answerLines, answerRoom, AnswerLent}
 use Rattle.fragment_stream.specs.declared.FragmentHead.{FragmentHead}
-use Rattle.fragment_stream.specs.Telling.{mateAt}
 use Rattle.catch_rules.specs.Job.{streamEntries}
 use Rattle.advances.specs.Advancing.{stepRoom}
 use Rattle.advances.proofs.Advancing.{roomier}
-use Rattle.told_fragments.specs.Told.{fragmentAt, TellLent}
+use Rattle.told_fragments.specs.Told.{TellLent}
 
 -- ---- the groups of an answer
 
@@ -65,7 +65,7 @@ module _ (ids ends : List ℕ) (named : NamesLent ids ends) (k : Counters) (each
 -- ---- the room of its lines
 
 -- the first of two reads has no more groups than its share
-abbrev pub FirstFew : ℕ → FragmentAnswer → Type 0
+abbrev FirstFew : ℕ → FragmentAnswer → Type 0
 FirstFew share (fragments.Refused n) = Unit {0}
 FirstFew share (fragments.Single m) = Unit {0}
 FirstFew share (fragments.Paired m) = m .first .groups ≤ share
@@ -85,58 +85,61 @@ module _ (offset : ℕ) (s : Settings) (ss : List (List ℕ)) (way : Way) (share
   first-few [] x xs e z = absurd (omega (arith, ap length e))
   first-few (r ∷ rs) x xs e z = subst (λ (y : Row). y .groups ≤ share) (head-eq-of-cons-eq e) (mate-few r (none-first (mateRoom offset s ss share r) (firstOf (mateRoom offset s ss share) rs) z))
 
--- ---- a fragment whose reads stand in bytes
+-- ---- an audited fragment, whatever was audited
 
 module _ (bases baseEnds ranked ks rs os ids ends bytes : List ℕ) (head : FragmentHead) (h : Held) (entries out : List ℕ) (at : ℕ)
     (lent : TellLent bases baseEnds ranked ks rs os ids ends bytes head (h .state .settings) (h .counters) entries out at) (share : ℕ) (shared : share ≡ shareOf (h .state .settings .mode) (entryCount entries))
-    (entries′ : List ℕ) (same : length entries′ ≡ length entries) where
+    (entries′ : List ℕ) (same : length entries′ ≡ length entries) (offset : ℕ) (way : Way) where
   abbrev ss : List (List ℕ)
   ss = rankedSequences bases baseEnds ranked
 
-  abbrev first : ℕ
-  first = roleNumber (head .first .role)
+  abbrev Seen : Fragment → FragmentAnswer → Type 0
+  Seen f r = TestedObserved offset ss way ranked h f r entries entries′
 
-  abbrev second : ℕ
-  second = roleNumber (head .second .role)
+  -- accepted, it is not refused, and each read has a row
+  module _ (f : Fragment) (r : FragmentAnswer) (rows : List Row) (seen : Seen f r) (told : fragmentOutcome r ≡ accepted rows) where
+    unrefused : (testedRefusal offset ss way ranked h f (entryCount entries) ≡ 0) × (testedRows offset ss way ranked h f ≡ rows)
+    unrefused = outcome-accepted (testedRefusal offset ss way ranked h f (entryCount entries)) (testedRows offset ss way ranked h f) rows (sym (seen .answer) ∙ told)
 
-  abbrev Seen : ℕ → Fragment → FragmentAnswer → Type 0
-  Seen offset f r = TestedObserved offset ss (byIndex auditSeed) ranked h f r entries entries′
+    as-many : length (f .reads) ≡ length rows
+    as-many = sym (length-map (f .reads) (mateRow offset (h .state .settings) ss way)) ∙ ap length (unrefused .1)
 
-  abbrev Here : FragmentAnswer → Type 0
-  Here r = Seen auditOffset (fragmentAt bytes head) r
-
-  accepted-lent : (r : FragmentAnswer) → Here r → OneOf (1 ∷ 2 ∷ []) (tagOf the-type r) → AnswerLent ids ends entries′ (4 * share) r
-  accepted-lent r seen tag =
-      answer-named ids ends (lent .named) (h .counters) (lent .each) first second (4 * share) entries′ r
-      (raisable auditOffset ss (byIndex auditSeed) ranked h (head .ordinal) (head .count) (mateAt bytes (head .first)) (mateAt bytes (head .second)) entries entries′ r seen tag
+  -- accepted, as its reads were lent
+  accepted-lent : (ordinal count : ℕ) (m m′ : MateRead) (r : FragmentAnswer) → Seen (fragmentOf ordinal count m m′) r → OneOf (1 ∷ 2 ∷ []) (tagOf the-type r) → AnswerLent ids ends entries′ (4 * share) r
+  accepted-lent ordinal count m m′ r seen tag =
+      answer-named ids ends (lent .named) (h .counters) (lent .each) (roleNumber (m .role)) (roleNumber (m′ .role)) (4 * share) entries′ r
+      (raisable offset ss way ranked h ordinal count m m′ entries entries′ r seen tag
       (lent .tested .limit) (lent .tested .counters) (lent .tested .places) (sym (length-map ranked (λ p. getD (cut baseEnds bases) p []))) share shared .postable)
 
-  here-lent : (r : FragmentAnswer) → Here r → AnswerLent ids ends entries′ (4 * share) r
-  here-lent (fragments.Refused n) seen = tt
-  here-lent (fragments.Single m) seen = accepted-lent (fragments.Single m) seen (hit (1 ∷ 2 ∷ []) 1 tt)
-  here-lent (fragments.Paired m) seen = accepted-lent (fragments.Paired m) seen (hit (1 ∷ 2 ∷ []) 2 tt)
+  -- with whatever reads: there are as many as are told
+  reads-lent : (ordinal : ℕ) (reads : List MateRead) (r : FragmentAnswer) → Seen (record { ordinal = ordinal; reads = reads }) r → AnswerLent ids ends entries′ (4 * share) r
+  reads-lent ordinal reads (fragments.Refused n) seen = tt
+  reads-lent ordinal [] (fragments.Single a) seen = absurd (omega (arith, as-many _ (fragments.Single a) (mappingRow a ∷ []) seen refl))
+  reads-lent ordinal (m ∷ []) (fragments.Single a) seen = accepted-lent ordinal 1 m m (fragments.Single a) seen (hit (1 ∷ 2 ∷ []) 1 tt)
+  reads-lent ordinal (m ∷ m′ ∷ ms) (fragments.Single a) seen = absurd (omega (arith, as-many _ (fragments.Single a) (mappingRow a ∷ []) seen refl))
+  reads-lent ordinal [] (fragments.Paired a) seen = absurd (omega (arith, as-many _ (fragments.Paired a) (mappingRow (a .first) ∷ mappingRow (a .second) ∷ []) seen refl))
+  reads-lent ordinal (m ∷ []) (fragments.Paired a) seen = absurd (omega (arith, as-many _ (fragments.Paired a) (mappingRow (a .first) ∷ mappingRow (a .second) ∷ []) seen refl))
+  reads-lent ordinal (m ∷ m′ ∷ []) (fragments.Paired a) seen = accepted-lent ordinal 2 m m′ (fragments.Paired a) seen (hit (1 ∷ 2 ∷ []) 2 tt)
+  reads-lent ordinal (m ∷ m′ ∷ m″ ∷ ms) (fragments.Paired a) seen = absurd (omega (arith, as-many _ (fragments.Paired a) (mappingRow (a .first) ∷ mappingRow (a .second) ∷ []) seen refl))
 
-  few : (r : FragmentAnswer) → Here r → FirstFew share r
-  few (fragments.Refused n) seen = tt
-  few (fragments.Single m) seen = tt
-  few (fragments.Paired m) seen =
-      let o = outcome-accepted _ (testedRows auditOffset ss (byIndex auditSeed) ranked h (fragmentAt bytes head)) (mappingRow (m .first) ∷ mappingRow (m .second) ∷ []) (sym (seen .answer)) in
-      let z = tested-checked auditOffset ss (byIndex auditSeed) ranked h (fragmentAt bytes head) (entryCount entries) (o .0) .rooms in
-      first-few auditOffset (h .state .settings) ss (byIndex auditSeed) share (fragmentAt bytes head .reads) (mappingRow (m .first)) (mappingRow (m .second) ∷ []) (o .1) (rw shared z)
+  few : (f : Fragment) (r : FragmentAnswer) → Seen f r → FirstFew share r
+  few f (fragments.Refused n) seen = tt
+  few f (fragments.Single a) seen = tt
+  few f (fragments.Paired a) seen =
+      let o = unrefused f (fragments.Paired a) (mappingRow (a .first) ∷ mappingRow (a .second) ∷ []) seen refl in
+      let z = tested-checked offset ss way ranked h f (entryCount entries) (o .0) .rooms in
+      first-few offset (h .state .settings) ss way share (f .reads) (mappingRow (a .first)) (mappingRow (a .second) ∷ []) (o .1) (rw shared z)
 
-  module _ (r : FragmentAnswer) (offset : ℕ) (f : Fragment) (seen : Seen offset f r) (set : offset ≡ auditOffset) (found : f ≡ fragmentAt bytes head) where
-    here : Here r
-    here = subst (λ x. Seen auditOffset x r) found (subst (λ n. Seen n f r) set seen)
-
+  module _ (f : Fragment) (r : FragmentAnswer) (seen : Seen f r) where
     short : answerRoom r ≤ stepRoom
-    short = answer-room ids ends entries′ share (same ∙ lent .whole) r (here-lent r here) (few r here)
+    short = answer-room ids ends entries′ share (same ∙ lent .whole) r (reads-lent (f .ordinal) (f .reads) r seen) (few f r seen)
 
     -- its groups stand in the entries, and its lines have room
     pub answer-lent : AnswerLent ids ends entries′ (4 * share) r × (at + answerRoom r ≤ length out)
-    answer-lent = (here-lent r here, omega (arith, lent .room, short))
+    answer-lent = (reads-lent (f .ordinal) (f .reads) r seen, omega (arith, lent .room, short))
 
     abbrev Written : ℕ → ℕ → List ℕ → ℕ → Type 0
-    Written room width out′ end = AddsAtMost room (answerLines (cut ends ids) (head .ordinal) first second width r entries′) out at out′ end
+    Written room width out′ end = AddsAtMost room (answerLines (cut ends ids) (head .ordinal) (roleNumber (head .first .role)) (roleNumber (head .second .role)) width r entries′) out at out′ end
 
     -- they are written for parts of a stream's entries
     pub answer-written : (out′ : List ℕ) (end : ℕ) → Written (answerRoom r) (4 * share) out′ end → Written stepRoom (4 * shareOf (h .state .settings .mode) streamEntries) out′ end

@@ -1,6 +1,5 @@
 -- `told_fragments::tell_fragment` meets its contract: the fragment is audited, and the lines of its answer are written.
 -- Assumes nothing.
-use mathlib.Core.Path.{refl}
 use native.Mathlib.Omega.{arith}
 use Rattle.audit_rules.specs.Calls.{heldOf}
 use Rattle.observing.proofs.Fragment.{known-within}
@@ -61,7 +60,7 @@ put-answer-requires c κs =
     let s = c .before .before .before .before .before .before .before .before .before .before .before .before .before .before .before .before .before .before .before .before .before .before .before .before .before .before .before .before .before .before .before .before .before .before .before .before .before in
     let a = s .args in
     let t = c .before .before .before .before .before .before .before .before .before .before .audit-tested in
-    answer-lent (a .bases .now) (a .base-ends .now) (a .ranked .now) (a .keys .now) (a .ranks .now) (a .positions .now) (a .identifiers .now) (a .identifier-ends .now) (a .bytes .now) (a .head) (heldOf (a .state) (a .placements .now) (a .singles .now) (a .multi .now)) (a .entries .now) (a .out .now) (a .at) (s .pre) (c .before .before .before .before .before .before .before .before .before .before .before .before .before .before .before .before .before .before .before .share-of .result) (c .before .before .before .before .before .before .before .before .before .before .before .before .before .before .before .before .before .before .before .share-of .ensures) (t .last .0) (t .kept .0) (t .result .answer) _ _ (t .ensures .observed) refl refl
+    answer-lent (a .bases .now) (a .base-ends .now) (a .ranked .now) (a .keys .now) (a .ranks .now) (a .positions .now) (a .identifiers .now) (a .identifier-ends .now) (a .bytes .now) (a .head) (heldOf (a .state) (a .placements .now) (a .singles .now) (a .multi .now)) (a .entries .now) (a .out .now) (a .at) (s .pre) (c .before .before .before .before .before .before .before .before .before .before .before .before .before .before .before .before .before .before .before .share-of .result) (c .before .before .before .before .before .before .before .before .before .before .before .before .before .before .before .before .before .before .before .share-of .ensures) (t .last .0) (t .kept .0) _ _ _ (t .result .answer) (t .ensures .observed)
 
 same-length : tie.Need-same-length
 same-length c = search needs
@@ -85,7 +84,7 @@ returns c =
     let t = c .before .before .before .before .before .before .before .before .before .before .before .before .before .audit-tested in
     record {
       audited = t .ensures;
-      adds = answer-written (a .bases .now) (a .base-ends .now) (a .ranked .now) (a .keys .now) (a .ranks .now) (a .positions .now) (a .identifiers .now) (a .identifier-ends .now) (a .bytes .now) (a .head) (heldOf (a .state) (a .placements .now) (a .singles .now) (a .multi .now)) (a .entries .now) (a .out .now) (a .at) (s .pre) (c .before .before .before .before .before .before .before .before .before .before .before .before .before .before .before .before .before .before .before .before .before .before .share-of .result) (c .before .before .before .before .before .before .before .before .before .before .before .before .before .before .before .before .before .before .before .before .before .before .share-of .ensures) (t .last .0) (t .kept .0) (t .result .answer) _ _ (t .ensures .observed) refl refl _ _ (c .before .before .put-answer .ensures);
+      adds = answer-written (a .bases .now) (a .base-ends .now) (a .ranked .now) (a .keys .now) (a .ranks .now) (a .positions .now) (a .identifiers .now) (a .identifier-ends .now) (a .bytes .now) (a .head) (heldOf (a .state) (a .placements .now) (a .singles .now) (a .multi .now)) (a .entries .now) (a .out .now) (a .at) (s .pre) (c .before .before .before .before .before .before .before .before .before .before .before .before .before .before .before .before .before .before .before .before .before .before .share-of .result) (c .before .before .before .before .before .before .before .before .before .before .before .before .before .before .before .before .before .before .before .before .before .before .share-of .ensures) (t .last .0) (t .kept .0) _ _ _ (t .result .answer) (t .ensures .observed) _ _ (c .before .before .put-answer .ensures);
     }
 
 pub tell-fragment-spec : {M : Type 1} → statement M
