@@ -1,0 +1,21 @@
+-- The bytes of a stream that are at hand in a buffer (REFERENCE.md, "Stream").
+use mathlib.Core.Path.{_≡_}
+use mathlib.Core.List.{List}
+use Prim.Native.Nat.{ℕ, _-_, _≤_}
+use lib.ListN.{length, take}
+use Rattle.lists.specs.Cut.{window}
+
+-- they stand between two places
+pub record AtHand (buffer : List ℕ) (from end : ℕ) : Type 0 where
+  pub ordered : from ≤ end
+  pub within : end ≤ length buffer
+
+-- n of them are now at the front
+abbrev pub Kept : List ℕ → ℕ → List ℕ → ℕ → Type 0
+Kept buffer from buffer′ n = take n buffer′ ≡ window buffer from n
+
+-- they are at the front, and others may stand behind them
+pub record Refilled (buffer : List ℕ) (from end : ℕ) (buffer′ : List ℕ) (r : ℕ) : Type 0 where
+  pub kept : Kept buffer from buffer′ (end - from)
+  pub more : end - from ≤ r
+  pub fits : r ≤ length buffer
