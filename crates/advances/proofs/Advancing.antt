@@ -1,8 +1,8 @@
--- A refusal and a wait are steps.
+-- A refusal, a wait and a command that writes nothing are steps.
 -- Assumes nothing.
 use mathlib.Core.Path.{_≡_, refl, sym, ap, subst, _∙_}
 use mathlib.Core.Bool.{Bool, true, false}
-use mathlib.Core.List.{List, [], _++_, append-nil}
+use mathlib.Core.List.{List, [], append-nil}
 use Prim.Native.Nat.{ℕ, _≤_}
 use native.Mathlib.Omega.{arith}
 use lib.ListN.{length, take, drop}
@@ -11,7 +11,6 @@ use Rattle.lines.specs.Lines.{lineRoom, refusalLine}
 use Rattle.fragment_stream.specs.Telling.{longestFragment}
 use Rattle.catch_rules.specs.Job.{Stage, still}
 use Rattle.catch_rules.specs.Feeding.{Goes, Ends}
-use Rattle.advances.specs.declared.Progress.{Progress}
 use Rattle.advances.specs.declared.Progress.the-variants as progress
 use Rattle.advances.specs.declared.Advance.{Advance}
 use Rattle.advances.specs.Advancing.{stepRoom, Tells, Advances, Refuses, Waits, Stays}
@@ -24,12 +23,12 @@ roomier most more text out at out′ r h a = record { adds = a .adds; room = ome
 pub nothing-added : (out : List ℕ) (at : ℕ) → AddsAtMost stepRoom [] out at out at
 nothing-added out at = record { adds = record { written = sym (append-nil (take at out)); end = omega arith }; room = omega arith }
 
-module _ (before after : Stage) (bytes out : List ℕ) (at : ℕ) (out′ : List ℕ) (r : Advance) where
-  -- what ends the run whatever follows ends it at the end of the stream too
-  pub ends-told : (ended : Bool) (text : List ℕ) → Ends before bytes text → Tells ended before bytes progress.Ended text after
-  ends-told true text e = ap (still before) (sym (append-nil bytes)) ∙ e []
-  ends-told false text e = e
+-- what ends the run whatever follows ends it at the end of the stream too
+pub ends-told : (before after : Stage) (bytes : List ℕ) (ended : Bool) (text : List ℕ) → Ends before bytes text → Tells ended before bytes progress.Ended text after
+ends-told before after bytes true text e = ap (still before) (sym (append-nil bytes)) ∙ e []
+ends-told before after bytes false text e = e
 
+module _ (before after : Stage) (bytes out : List ℕ) (at : ℕ) (out′ : List ℕ) (r : Advance) where
   -- a last step
   pub last-step : (ended : Bool) (most : ℕ) (text : List ℕ) → most ≤ stepRoom → AddsAtMost most text out at out′ (r .at) → r .progress ≡ progress.Ended → Tells ended before bytes progress.Ended text after → Advances ended before bytes out at out′ r after
   last-step ended most text h adds last told =
@@ -37,7 +36,7 @@ module _ (before after : Stage) (bytes out : List ℕ) (at : ℕ) (out′ : List
 
   -- a refusal
   pub refuses : (ended : Bool) (number : ℕ) → Refuses number out at out′ r → Ends before bytes (refusalLine number) → Advances ended before bytes out at out′ r after
-  refuses ended number f e = last-step ended lineRoom (refusalLine number) (omega arith) (f .adds) (f .last) (ends-told ended (refusalLine number) e)
+  refuses ended number f e = last-step ended lineRoom (refusalLine number) (omega arith) (f .adds) (f .last) (ends-told before after bytes ended (refusalLine number) e)
 
 -- a step that changes nothing
 module _ (stage : Stage) (bytes out : List ℕ) (at : ℕ) (out′ : List ℕ) (r : Advance) (few : length bytes ≤ longestFragment) where

@@ -18,6 +18,7 @@ use Rattle.ledger.specs.Balance.{balanced}
 use Rattle.audit_rules.specs.Opening.{openingRefusal}
 use Rattle.audit_rules.specs.Fragment.{testedRefusal, fragmentRefusal}
 use Rattle.audit_rules.specs.Sheet.{finishRefusal}
+use Rattle.catch_rules.proofs.Example.{example-written}
 use Rattle.agreement.specs.Examples.{catchRun, RunHolds, examples, AllHold, mapper}
 
 catch-holds : RunHolds catchRun
@@ -30,4 +31,4 @@ mapper-holds (x ∷ xs) h = (h .0, mapper-holds xs (h .1))
 
 -- every example of the table
 pub examples-hold : AllHold examples
-examples-hold = (catch-holds, mapper-holds board.examples board-holds)
+examples-hold = (example-written, (catch-holds, mapper-holds board.examples board-holds))

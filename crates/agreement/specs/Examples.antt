@@ -1,4 +1,4 @@
--- The worked examples of the rules, those of the mapper and a whole run, as one table (REFERENCE.md, "Worked examples").
+-- The worked examples of the rules, those of the mapper, a whole run and a stream, as one table (REFERENCE.md, "Worked examples").
 use mathlib.Core.Path.{_≡_}
 use mathlib.Core.Bool.{true}
 use mathlib.Core.List.{List, [], _∷_, map}
@@ -22,6 +22,8 @@ use Rattle.audit_rules.specs.Settings.{Held, auditSeed, auditOffset}
 use Rattle.audit_rules.specs.Opening.{IndexLent, columns, openingRefusal, started}
 use Rattle.audit_rules.specs.Sheet.{shown, totalsOf, statusWord, sheetOf, countsShown, targetsShown, finishRefusal}
 use Rattle.audit_rules.specs.Run.{Call, Answer, answers, after}
+use Rattle.catch_rules.specs.Job.{catch}
+use Rattle.catch_rules.specs.Example.{exampleStream, exampleLines}
 use Rattle.agreement.specs.Placements.{Placement, placementsIn}
 
 -- a run with one index throughout: its calls, and what is seen of it
@@ -42,9 +44,11 @@ pub record Run : Type 0 where
   -- the words of the statuses: of the run, and of each target
   pub words : List String
 
+-- of the mapper; a run; a stream of `catch` and the lines that are written for it
 pub data Example : Type 0 where
   mapper : board.Example → Example
   run : Run → Example
+  job : List ℕ → List ℕ → Example
 
 abbrev atEnd : Run → Held
 atEnd r = after auditSeed auditOffset (r .catalogue) (started (r .catalogue) (r .settings)) (r .calls)
@@ -66,6 +70,7 @@ pub record RunHolds (r : Run) : Type 0 where
 abbrev pub Holds : Example → Type 0
 Holds (mapper e) = board.Holds e
 Holds (run r) = RunHolds r
+Holds (job bytes lines) = catch bytes ≡ lines
 
 abbrev pub AllHold : List Example → Type 0
 AllHold [] = Unit {0}
@@ -96,4 +101,4 @@ catchRun =
     }
 
 abbrev pub examples : List Example
-examples = run catchRun ∷ map mapper board.examples
+examples = job exampleStream exampleLines ∷ run catchRun ∷ map mapper board.examples

@@ -38,7 +38,7 @@ abbrev pub targetAt : ℕ → List (List ℕ) → List (List ℕ) → List ℕ �
 targetAt k ns ss ms j = target (k + j) (getD ns j []) (getD ms j 0) (getD ss j [])
 
 -- as many targets as marks, where there are as many names and sequences
-targets-count : (k : ℕ) (ns ss : List (List ℕ)) (ms : List ℕ) → length ss ≡ length ns → length ms ≡ length ns → length (targetsFrom k ns ss ms) ≡ length ms
+pub targets-count : (k : ℕ) (ns ss : List (List ℕ)) (ms : List ℕ) → length ss ≡ length ns → length ms ≡ length ns → length (targetsFrom k ns ss ms) ≡ length ms
 targets-count k [] ss ms e f = sym f
 targets-count k (n ∷ ns) [] ms e f = absurd (omega arith)
 targets-count k (n ∷ ns) (s ∷ ss) [] e f = refl

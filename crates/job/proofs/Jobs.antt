@@ -3,23 +3,21 @@
 use mathlib.Core.Path.{_≡_, refl, sym, ap, subst, subst₂, _∙_}
 use mathlib.Core.Bool.{Bool}
 use mathlib.Core.List.{List, [], _∷_, _++_}
-use Prim.Native.Nat.{ℕ, zero, suc, _+_, _-_, _*_, _≤_, _<_}
+use Prim.Native.Nat.{ℕ, zero, suc, _-_, _*_, _≤_}
 use native.Mathlib.Omega.{arith}
 use lib.ListN.{length, getD, take, drop, replicate, length-map, length-take, length-append, length-drop}
 use lib.Seq.{length-take-le, take-length, take-append-seam}
 use Rattle.lists.proofs.Cut.{length-cut}
-use Rattle.catalogue.specs.Catalogue.{Catalogue, names, sequences, targets, targetsFrom}
+use Rattle.catalogue.specs.Catalogue.{Catalogue, names, sequences, targets}
+use Rattle.catalogue.proofs.Mapped.{targets-count}
 use Rattle.index.specs.Index.{index}
-use Rattle.ledger.specs.Booking.{Counters, countersOf, emptyCounters}
-use Rattle.audit_rules.specs.declared.settings.AuditState.{AuditState}
+use Rattle.ledger.specs.Booking.{countersOf}
 use Rattle.audit_rules.specs.declared.settings.Settings.{Settings}
 use Rattle.audit_rules.specs.Settings.{Held, auditSeed}
 use Rattle.audit_rules.specs.Opening.{columns, started}
-use Rattle.audit_rules.specs.Calls.{heldOf}
 use Rattle.stream.specs.Commands.{maxStreamTargets}
-use Rattle.supplies.specs.declared.Supply.{Supply}
 use Rattle.supplies.specs.Supplied.{suppliedIn}
-use Rattle.catch_rules.specs.Job.{noTargets, streamEntries, Stage, beginning, supplying, running}
+use Rattle.catch_rules.specs.Job.{streamEntries, beginning, supplying}
 use Rattle.catch_rules.proofs.Steps.{none-left}
 use Rattle.job_opening.specs.Opened.{JobRoom}
 use Rattle.advances.specs.declared.Advance.{Advance}
@@ -33,18 +31,10 @@ use Rattle.supplying.specs.declared.Opened.the-variants as opened
 use Rattle.supplying.specs.Supplying.{Begins, SupplyKept, SupplyTold, OpensAt}
 use Rattle.running.specs.declared.RunStep.{RunStep}
 use Rattle.running.specs.Running.{Passes, Runs, Ran}
-use Rattle.job.specs.declared.JobStage.{JobStage}
 use Rattle.job.specs.declared.JobStage.the-variants as stages
 use Rattle.job.specs.declared.Job.{Job}
 use Rattle.job.specs.declared.Advanced.{Advanced}
 use Rattle.job.specs.Jobs.{begunJob, openedJob, Buffers, buffersOf, suppliedOf, heldBy, stageAt, stageOf, KeptAt, JobKept, JobAdvances}
-
-targets-count : (k : ℕ) (ns ss : List (List ℕ)) (ms : List ℕ) → length ss ≡ length ns → length ms ≡ length ns → length (targetsFrom k ns ss ms) ≡ length ms
-targets-count k [] ss [] e f = refl
-targets-count k [] ss (m ∷ ms) e f = absurd (omega arith)
-targets-count k (n ∷ ns) [] ms e f = absurd (omega arith)
-targets-count k (n ∷ ns) (s ∷ ss) [] e f = absurd (omega arith)
-targets-count k (n ∷ ns) (s ∷ ss) (m ∷ ms) e f = ap suc (targets-count (suc k) ns ss ms (omega arith) (omega arith))
 
 take-zeros : (n m : ℕ) → n ≤ m → take n (replicate {A = ℕ} m 0) ≡ replicate n 0
 take-zeros zero m h = refl
@@ -111,7 +101,7 @@ module _ (j : Job) (b : Buffers) (kept : JobKept j b) (ended : Bool) (out : List
     supplies : (r : Supplied) (is ies bs bes ms : List ℕ) → SupplyKept (r .supply) is ies bs bes ms
         → SupplyTold ended (suppliedOf j b) bytes out at out′ r (suppliedIn (r .supply) is ies bs bes ms)
         → JobAdvances ended j b bytes out at out′ (record { job = record { stage = j .stage; supply = r .supply; indexed = j .indexed; state = j .state }; advance = r .advance })
-            (buffersOf is ies bs bes ms (b .ranked) (b .keys) (b .ranks) (b .positions) (b .placements) (b .singles) (b .multi))
+        (buffersOf is ies bs bes ms (b .ranked) (b .keys) (b .ranks) (b .positions) (b .placements) (b .singles) (b .multi))
     supplies r is ies bs bes ms room t =
         record {
           advances = rw second (t s);
@@ -121,7 +111,7 @@ module _ (j : Job) (b : Buffers) (kept : JobKept j b) (ended : Bool) (out : List
     pub supply-step : 1 ≤ length bytes → getD bytes 0 0 ≡ 2 → (r : Supplied) (is ies bs bes ms : List ℕ) → SupplyKept (r .supply) is ies bs bes ms
         → SupplyTold ended (suppliedOf j b) (2 ∷ take (length bytes - 1) (drop 1 bytes)) out at out′ r (suppliedIn (r .supply) is ies bs bes ms)
         → JobAdvances ended j b bytes out at out′ (record { job = record { stage = j .stage; supply = r .supply; indexed = j .indexed; state = j .state }; advance = r .advance })
-            (buffersOf is ies bs bes ms (b .ranked) (b .keys) (b .ranks) (b .positions) (b .placements) (b .singles) (b .multi))
+        (buffersOf is ies bs bes ms (b .ranked) (b .keys) (b .ranks) (b .positions) (b .placements) (b .singles) (b .multi))
     supply-step some two r is ies bs bes ms room t =
         let e : 2 ∷ take (length bytes - 1) (drop 1 bytes) ≡ bytes = ap (λ x. x ∷ take (length bytes - 1) (drop 1 bytes)) (sym two) ∙ code-first bytes some in
         supplies r is ies bs bes ms room (subst (λ l. SupplyTold ended (suppliedOf j b) l out at out′ r (suppliedIn (r .supply) is ies bs bes ms)) e t)
@@ -223,7 +213,7 @@ module _ (j : Job) (b : Buffers) (kept : JobKept j b) (ended : Bool) (out : List
         → take (j .supply .targets) ps′ ≡ ps → take (j .supply .targets) ss′ ≡ ss → take (j .supply .targets) ms′ ≡ ms
         → length ps′ ≡ length (b .placements) → length ss′ ≡ length (b .singles) → length ms′ ≡ length (b .multi)
         → JobAdvances ended j b bytes out at out′ (record { job = record { stage = j .stage; supply = j .supply; indexed = j .indexed; state = r .state }; advance = r .advance })
-            (buffersOf (b .identifiers) (b .identifierEnds) (b .bases) (b .baseEnds) (b .marks) (b .ranked) (b .keys) (b .ranks) (b .positions) ps′ ss′ ms′)
+        (buffersOf (b .identifiers) (b .identifierEnds) (b .bases) (b .baseEnds) (b .marks) (b .ranked) (b .keys) (b .ranks) (b .positions) ps′ ss′ ms′)
     runs bytes r ps ss ms ps′ ss′ ms′ ran e f g x y z =
         record {
           advances = rw (third, e, f, g) (ran .advances);
@@ -246,7 +236,7 @@ module _ (j : Job) (b : Buffers) (kept : JobKept j b) (ended : Bool) (out : List
         → Ran ended d held (getD bytes 0 0 ∷ take (length bytes - 1) (drop 1 bytes)) out at out′ r (countersOf ps ss ms)
         → length ps ≡ j .supply .targets → length ss ≡ j .supply .targets → length ms ≡ j .supply .targets
         → JobAdvances ended j b bytes out at out′ (record { job = record { stage = j .stage; supply = j .supply; indexed = j .indexed; state = r .state }; advance = r .advance })
-            (buffersOf (b .identifiers) (b .identifierEnds) (b .bases) (b .baseEnds) (b .marks) (b .ranked) (b .keys) (b .ranks) (b .positions) (ps ++ drop (j .supply .targets) (b .placements)) (ss ++ drop (j .supply .targets) (b .singles)) (ms ++ drop (j .supply .targets) (b .multi)))
+        (buffersOf (b .identifiers) (b .identifierEnds) (b .bases) (b .baseEnds) (b .marks) (b .ranked) (b .keys) (b .ranks) (b .positions) (ps ++ drop (j .supply .targets) (b .placements)) (ss ++ drop (j .supply .targets) (b .singles)) (ms ++ drop (j .supply .targets) (b .multi)))
     run-step bytes some r ps ss ms ran e f g =
         runs bytes r ps ss ms _ _ _ (subst (λ l. Ran ended d held l out at out′ r (countersOf ps ss ms)) (code-first bytes some) ran)
         (front-back n ps _ e) (front-back n ss _ f) (front-back n ms _ g)

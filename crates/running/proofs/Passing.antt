@@ -1,7 +1,7 @@
 -- Where the opening's checks pass, a fragment is lent what it needs, and they pass behind it.
 -- Assumes nothing.
 use mathlib.Core.Path.{_≡_, refl, sym, ap, subst, _∙_}
-use mathlib.Core.Bool.{true, _&&_}
+use mathlib.Core.Bool.{true}
 use mathlib.Core.List.{List}
 use Prim.Native.Nat.{ℕ, _≤_}
 use native.Mathlib.Omega.{arith}
@@ -12,7 +12,6 @@ use Rattle.lists.specs.Sort.{sort}
 use Rattle.lists.proofs.Filter.{length-filter}
 use Rattle.lists.proofs.Sort.{length-sort}
 use Rattle.catalogue.specs.Catalogue.{Catalogue, Target, targets, isMapped, byName, mapped, suppliedPlaces, maxTargets, inBounds}
-use Rattle.catalogue.specs.declared.ranks.Ranking.{Ranking}
 use Rattle.catalogue.specs.declared.ranks.Ranking.the-variants.{Ranked}
 use Rattle.catalogue.proofs.Checks.{bounded}
 use Rattle.catalogue.proofs.Mapped.{target-count}
@@ -23,7 +22,7 @@ use Rattle.ledger.specs.Booking.{Counters}
 use Rattle.ledger.proofs.Booking.{booked-lengths}
 use Rattle.audit_rules.specs.declared.calls.FragmentAudit.{FragmentAudit}
 use Rattle.audit_rules.specs.Settings.{Held, auditSeed, auditOffset, booksOf}
-use Rattle.audit_rules.specs.Opening.{IndexLent, columns, openingRefusal}
+use Rattle.audit_rules.specs.Opening.{columns, openingRefusal}
 use Rattle.audit_rules.specs.Fragment.{Fragment, fragmentBooked, fragmentAccepted}
 use Rattle.audit_rules.specs.Calls.{Audits}
 use Rattle.audit_rules.proofs.Opening.{Passed, opening-passed}

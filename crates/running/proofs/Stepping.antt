@@ -5,7 +5,7 @@ use mathlib.Core.Bool.{Bool, true, false}
 use mathlib.Core.List.{List, [], _∷_}
 use Prim.Native.Nat.{ℕ, suc, _+_, _≤_, _<_}
 use native.Mathlib.Omega.{arith}
-use lib.ListN.{length, drop}
+use lib.ListN.{length}
 use Rattle.promises.specs.Refusal.{accepted}
 use Rattle.catalogue.specs.Catalogue.{Catalogue, names}
 use Rattle.catalogue.proofs.Checks.{bounded}
@@ -18,7 +18,7 @@ use Rattle.audit_rules.specs.declared.calls.Finish.{Finish}
 use Rattle.audit_rules.specs.Settings.{Held, auditSeed, auditOffset}
 use Rattle.audit_rules.specs.Calls.{fragmentOutcome, mappingRow, Audits}
 use Rattle.stream.specs.Commands.{fragmentIn}
-use Rattle.stream.specs.Telling.{Refused, Short}
+use Rattle.stream.specs.Telling.{Short}
 use Rattle.texts.specs.Writing.{AddsAtMost}
 use Rattle.lines.specs.Lines.{refusalLine}
 use Rattle.sheet_lines.specs.Lent.{sheetRoom, TargetsLent}
@@ -30,7 +30,7 @@ use Rattle.fragment_stream.specs.declared.FragmentRead.{FragmentRead}
 use Rattle.fragment_stream.specs.declared.FragmentRead.the-variants as reads
 use Rattle.fragment_stream.specs.Telling.{longestFragment, FragmentTold}
 use Rattle.fragment_stream.proofs.Longest.{fragment-longest}
-use Rattle.catch_rules.specs.Job.{lentOf, running, still}
+use Rattle.catch_rules.specs.Job.{lentOf, running}
 use Rattle.catch_rules.specs.Feeding.{Ends}
 use Rattle.catch_rules.proofs.Steps.{fragment-wrong, fragment-short, run-other, bytes-behind}
 use Rattle.advances.specs.declared.Advance.{Advance}
@@ -163,6 +163,6 @@ module _ (c : Catalogue) (ranked ks rs os : List ℕ) (h : Held) (entries : List
               let w = fragment-refuses c ranked ks rs os h entries lent bytes head (read .0) (t .audit) k entries′ audits number a in
               let ends : Ends (running c h) (3 ∷ bytes) text = rw a (w .0) in
               record {
-                advances = record { text = text; adds = tells .adds; told = subst (λ x. advancing.Tells ended (running c h) (3 ∷ bytes) x text (running c after)) (sym (q ∙ ap (λ y. progressOf y n) a)) (ends-told (running c h) (running c after) (3 ∷ bytes) out at out′ (record { at = t .end; progress = p }) ended text ends) };
+                advances = record { text = text; adds = tells .adds; told = subst (λ x. advancing.Tells ended (running c h) (3 ∷ bytes) x text (running c after)) (sym (q ∙ ap (λ y. progressOf y n) a)) (ends-told (running c h) (running c after) (3 ∷ bytes) ended text ends) };
                 still-passes = subst (Passes c) (sym (w .1)) (lent .passes);
               }

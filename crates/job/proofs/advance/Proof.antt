@@ -17,7 +17,7 @@ same-length : tie.Need-same-length
 same-length c = search needs
 
 returns : tie.Need-returns
-returns c = 
+returns c =
     let s = c .before .before .before .before .before .before .before .before .before .before .before .before .before .before .before .before .before .before .before .before in
     let a = s .args in
     let kept = s .pre .0 in
@@ -69,7 +69,7 @@ same-length-7 : tie.Need-same-length-7
 same-length-7 c = search needs
 
 returns-2 : tie.Need-returns-2
-returns-2 c = 
+returns-2 c =
     let s = c .before .before .before .before .before .before .before .before .before .before .before .before .before .before .before .before .before .before .before .before .before .before .before .before .before .before .before .before .before .before .before .before .before .before .before .before .before .before .before .before .before .before .before .before .before .before in
     let a = s .args in
     let kept = s .pre .0 in
@@ -79,7 +79,7 @@ slice-reshare-prefix-open : tie.Need-slice-reshare-prefix-open
 slice-reshare-prefix-open c = search needs
 
 slice-aggregate-open : tie.Need-slice-aggregate-open
-slice-aggregate-open c = 
+slice-aggregate-open c =
     let s = c .before .before .before .before .before .before .before .before .before .before .before .before .before .before .before .before .before .before .before .before .before .before .before .before .before .before .before .before .before .before .before in
     let a = s .args in
     let kept = s .pre .0 in
@@ -89,7 +89,7 @@ slice-reshare-prefix-open-2 : tie.Need-slice-reshare-prefix-open-2
 slice-reshare-prefix-open-2 c = search needs
 
 slice-aggregate-open-2 : tie.Need-slice-aggregate-open-2
-slice-aggregate-open-2 c = 
+slice-aggregate-open-2 c =
     let s = c .before .before .before .before .before .before .before .before .before .before .before .before .before .before .before .before .before .before .before .before .before .before .before .before .before .before .before .before .before .before .before .before in
     let a = s .args in
     let kept = s .pre .0 in
@@ -99,7 +99,7 @@ slice-reshare-prefix-open-3 : tie.Need-slice-reshare-prefix-open-3
 slice-reshare-prefix-open-3 c = search needs
 
 slice-aggregate-open-3 : tie.Need-slice-aggregate-open-3
-slice-aggregate-open-3 c = 
+slice-aggregate-open-3 c =
     let s = c .before .before .before .before .before .before .before .before .before .before .before .before .before .before .before .before .before .before .before .before .before .before .before .before .before .before .before .before .before .before .before .before .before in
     let a = s .args in
     let kept = s .pre .0 in
@@ -109,7 +109,7 @@ slice-reshare-prefix-open-4 : tie.Need-slice-reshare-prefix-open-4
 slice-reshare-prefix-open-4 c = search needs
 
 slice-aggregate-open-4 : tie.Need-slice-aggregate-open-4
-slice-aggregate-open-4 c = 
+slice-aggregate-open-4 c =
     let s = c .before .before .before .before .before .before .before .before .before .before .before .before .before .before .before .before .before .before .before .before .before .before .before .before .before .before .before .before .before .before .before .before .before .before in
     let a = s .args in
     let kept = s .pre .0 in
@@ -119,7 +119,7 @@ slice-reshare-prefix-open-5 : tie.Need-slice-reshare-prefix-open-5
 slice-reshare-prefix-open-5 c = search needs
 
 slice-aggregate-open-5 : tie.Need-slice-aggregate-open-5
-slice-aggregate-open-5 c = 
+slice-aggregate-open-5 c =
     let s = c .before .before .before .before .before .before .before .before .before .before .before .before .before .before .before .before .before .before .before .before .before .before .before .before .before .before .before .before .before .before .before .before .before .before .before in
     let a = s .args in
     let kept = s .pre .0 in
@@ -129,7 +129,7 @@ slice-reshare-prefix-open-6 : tie.Need-slice-reshare-prefix-open-6
 slice-reshare-prefix-open-6 c = search needs
 
 slice-aggregate-open-6 : tie.Need-slice-aggregate-open-6
-slice-aggregate-open-6 c = 
+slice-aggregate-open-6 c =
     let s = c .before .before .before .before .before .before .before .before .before .before .before .before .before .before .before .before .before .before .before .before .before .before .before .before .before .before .before .before .before .before .before .before .before .before .before .before in
     let a = s .args in
     let kept = s .pre .0 in
@@ -139,7 +139,7 @@ slice-reshare-prefix-open-7 : tie.Need-slice-reshare-prefix-open-7
 slice-reshare-prefix-open-7 c = search needs
 
 slice-aggregate-open-7 : tie.Need-slice-aggregate-open-7
-slice-aggregate-open-7 c = 
+slice-aggregate-open-7 c =
     let s = c .before .before .before .before .before .before .before .before .before .before .before .before .before .before .before .before .before .before .before .before .before .before .before .before .before .before .before .before .before .before .before .before .before .before .before .before .before in
     let a = s .args in
     let kept = s .pre .0 in
@@ -149,14 +149,14 @@ slice-reshare-prefix-open-8 : tie.Need-slice-reshare-prefix-open-8
 slice-reshare-prefix-open-8 c = search needs
 
 slice-aggregate-open-8 : tie.Need-slice-aggregate-open-8
-slice-aggregate-open-8 c = 
+slice-aggregate-open-8 c =
     let s = c .before .before .before .before .before .before .before .before .before .before .before .before .before .before .before .before .before .before .before .before .before .before .before .before .before .before .before .before .before .before .before .before .before .before .before .before .before .before in
     let a = s .args in
     let kept = s .pre .0 in
     sym (length-take-le (a .job .supply .targets) (a .marks .now) (omega (arith, kept .supply .targets, kept .supply .marks)))
 
 open-requires : tie.Need-open-requires
-open-requires c κs = 
+open-requires c κs =
     let s = c .before .before .before .before .before .before .before .before .before .before .before .before .before .before .before .before .before .before .before .before .before .before .before .before .before .before .before .before .before .before .before .before .before .before .before .before .before .before in
     let a = s .args in
     let kept = s .pre .0 in
@@ -172,7 +172,7 @@ slice-relend-prefix-run : tie.Need-slice-relend-prefix-run
 slice-relend-prefix-run c = search needs
 
 slice-aggregate-run : tie.Need-slice-aggregate-run
-slice-aggregate-run c = 
+slice-aggregate-run c =
     let s = c .before .before .before .before .before .before .before .before .before .before .before .before .before .before .before .before .before .before .before .before .before .before .before .before .before .before .before in
     let a = s .args in
     let kept = s .pre .0 in
@@ -182,7 +182,7 @@ slice-relend-prefix-run-2 : tie.Need-slice-relend-prefix-run-2
 slice-relend-prefix-run-2 c = search needs
 
 slice-aggregate-run-2 : tie.Need-slice-aggregate-run-2
-slice-aggregate-run-2 c = 
+slice-aggregate-run-2 c =
     let s = c .before .before .before .before .before .before .before .before .before .before .before .before .before .before .before .before .before .before .before .before .before .before .before .before .before .before .before .before in
     let a = s .args in
     let kept = s .pre .0 in
@@ -192,49 +192,49 @@ slice-relend-prefix-run-3 : tie.Need-slice-relend-prefix-run-3
 slice-relend-prefix-run-3 c = search needs
 
 slice-aggregate-run-3 : tie.Need-slice-aggregate-run-3
-slice-aggregate-run-3 c = 
+slice-aggregate-run-3 c =
     let s = c .before .before .before .before .before .before .before .before .before .before .before .before .before .before .before .before .before .before .before .before .before .before .before .before .before .before .before .before .before in
     let a = s .args in
     let kept = s .pre .0 in
     sym (length-take-le (a .job .supply .targets) (a .multi .now) (omega (arith, kept .supply .targets, kept .multi)))
 
 slice-reshare-prefix-run : tie.Need-slice-reshare-prefix-run
-slice-reshare-prefix-run c = 
+slice-reshare-prefix-run c =
     let s = c .before .before .before .before .before .before .before .before .before .before .before .before .before .before .before .before .before .before .before .before .before .before .before .before .before .before .before .before .before in
     let a = s .args in
     let kept = s .pre .0 in
     postings-within (a .job) (buffersOf (a .identifiers .now) (a .identifier-ends .now) (a .bases .now) (a .base-ends .now) (a .marks .now) (a .ranked .now) (a .keys .now) (a .ranks .now) (a .positions .now) (a .placements .now) (a .singles .now) (a .multi .now)) kept (a .ended) (a .out .now) (a .at) (a .out .now) (c .before .before .before .before .before .enum-told3 .given .1) .0
 
 slice-aggregate-run-4 : tie.Need-slice-aggregate-run-4
-slice-aggregate-run-4 c = 
+slice-aggregate-run-4 c =
     let s = c .before .before .before .before .before .before .before .before .before .before .before .before .before .before .before .before .before .before .before .before .before .before .before .before .before .before .before .before .before .before in
     let a = s .args in
     let kept = s .pre .0 in
     sym (length-take-le (a .job .indexed .postings) (a .keys .now) (postings-within (a .job) (buffersOf (a .identifiers .now) (a .identifier-ends .now) (a .bases .now) (a .base-ends .now) (a .marks .now) (a .ranked .now) (a .keys .now) (a .ranks .now) (a .positions .now) (a .placements .now) (a .singles .now) (a .multi .now)) kept (a .ended) (a .out .now) (a .at) (a .out .now) (c .before .before .before .before .before .before .enum-told3 .given .1) .0))
 
 slice-reshare-prefix-run-2 : tie.Need-slice-reshare-prefix-run-2
-slice-reshare-prefix-run-2 c = 
+slice-reshare-prefix-run-2 c =
     let s = c .before .before .before .before .before .before .before .before .before .before .before .before .before .before .before .before .before .before .before .before .before .before .before .before .before .before .before .before .before .before in
     let a = s .args in
     let kept = s .pre .0 in
     postings-within (a .job) (buffersOf (a .identifiers .now) (a .identifier-ends .now) (a .bases .now) (a .base-ends .now) (a .marks .now) (a .ranked .now) (a .keys .now) (a .ranks .now) (a .positions .now) (a .placements .now) (a .singles .now) (a .multi .now)) kept (a .ended) (a .out .now) (a .at) (a .out .now) (c .before .before .before .before .before .before .enum-told3 .given .1) .1
 
 slice-aggregate-run-5 : tie.Need-slice-aggregate-run-5
-slice-aggregate-run-5 c = 
+slice-aggregate-run-5 c =
     let s = c .before .before .before .before .before .before .before .before .before .before .before .before .before .before .before .before .before .before .before .before .before .before .before .before .before .before .before .before .before .before .before in
     let a = s .args in
     let kept = s .pre .0 in
     sym (length-take-le (a .job .indexed .postings) (a .ranks .now) (postings-within (a .job) (buffersOf (a .identifiers .now) (a .identifier-ends .now) (a .bases .now) (a .base-ends .now) (a .marks .now) (a .ranked .now) (a .keys .now) (a .ranks .now) (a .positions .now) (a .placements .now) (a .singles .now) (a .multi .now)) kept (a .ended) (a .out .now) (a .at) (a .out .now) (c .before .before .before .before .before .before .before .enum-told3 .given .1) .1))
 
 slice-reshare-prefix-run-3 : tie.Need-slice-reshare-prefix-run-3
-slice-reshare-prefix-run-3 c = 
+slice-reshare-prefix-run-3 c =
     let s = c .before .before .before .before .before .before .before .before .before .before .before .before .before .before .before .before .before .before .before .before .before .before .before .before .before .before .before .before .before .before .before in
     let a = s .args in
     let kept = s .pre .0 in
     postings-within (a .job) (buffersOf (a .identifiers .now) (a .identifier-ends .now) (a .bases .now) (a .base-ends .now) (a .marks .now) (a .ranked .now) (a .keys .now) (a .ranks .now) (a .positions .now) (a .placements .now) (a .singles .now) (a .multi .now)) kept (a .ended) (a .out .now) (a .at) (a .out .now) (c .before .before .before .before .before .before .before .enum-told3 .given .1) .2
 
 slice-aggregate-run-6 : tie.Need-slice-aggregate-run-6
-slice-aggregate-run-6 c = 
+slice-aggregate-run-6 c =
     let s = c .before .before .before .before .before .before .before .before .before .before .before .before .before .before .before .before .before .before .before .before .before .before .before .before .before .before .before .before .before .before .before .before in
     let a = s .args in
     let kept = s .pre .0 in
@@ -244,7 +244,7 @@ slice-reshare-prefix-run-4 : tie.Need-slice-reshare-prefix-run-4
 slice-reshare-prefix-run-4 c = search needs
 
 slice-aggregate-run-7 : tie.Need-slice-aggregate-run-7
-slice-aggregate-run-7 c = 
+slice-aggregate-run-7 c =
     let s = c .before .before .before .before .before .before .before .before .before .before .before .before .before .before .before .before .before .before .before .before .before .before .before .before .before .before .before .before .before .before .before .before .before in
     let a = s .args in
     let kept = s .pre .0 in
@@ -254,7 +254,7 @@ slice-reshare-prefix-run-5 : tie.Need-slice-reshare-prefix-run-5
 slice-reshare-prefix-run-5 c = search needs
 
 slice-aggregate-run-8 : tie.Need-slice-aggregate-run-8
-slice-aggregate-run-8 c = 
+slice-aggregate-run-8 c =
     let s = c .before .before .before .before .before .before .before .before .before .before .before .before .before .before .before .before .before .before .before .before .before .before .before .before .before .before .before .before .before .before .before .before .before .before in
     let a = s .args in
     let kept = s .pre .0 in
@@ -264,7 +264,7 @@ slice-reshare-prefix-run-6 : tie.Need-slice-reshare-prefix-run-6
 slice-reshare-prefix-run-6 c = search needs
 
 slice-aggregate-run-9 : tie.Need-slice-aggregate-run-9
-slice-aggregate-run-9 c = 
+slice-aggregate-run-9 c =
     let s = c .before .before .before .before .before .before .before .before .before .before .before .before .before .before .before .before .before .before .before .before .before .before .before .before .before .before .before .before .before .before .before .before .before .before .before in
     let a = s .args in
     let kept = s .pre .0 in
@@ -274,7 +274,7 @@ slice-reshare-prefix-run-7 : tie.Need-slice-reshare-prefix-run-7
 slice-reshare-prefix-run-7 c = search needs
 
 slice-aggregate-run-10 : tie.Need-slice-aggregate-run-10
-slice-aggregate-run-10 c = 
+slice-aggregate-run-10 c =
     let s = c .before .before .before .before .before .before .before .before .before .before .before .before .before .before .before .before .before .before .before .before .before .before .before .before .before .before .before .before .before .before .before .before .before .before .before .before in
     let a = s .args in
     let kept = s .pre .0 in
@@ -284,28 +284,28 @@ slice-reshare-prefix-run-8 : tie.Need-slice-reshare-prefix-run-8
 slice-reshare-prefix-run-8 c = search needs
 
 slice-aggregate-run-11 : tie.Need-slice-aggregate-run-11
-slice-aggregate-run-11 c = 
+slice-aggregate-run-11 c =
     let s = c .before .before .before .before .before .before .before .before .before .before .before .before .before .before .before .before .before .before .before .before .before .before .before .before .before .before .before .before .before .before .before .before .before .before .before .before .before in
     let a = s .args in
     let kept = s .pre .0 in
     sym (length-take-le (a .job .supply .targets) (a .marks .now) (omega (arith, kept .supply .targets, kept .supply .marks)))
 
 slice-reshare-prefix-run-9 : tie.Need-slice-reshare-prefix-run-9
-slice-reshare-prefix-run-9 c = 
+slice-reshare-prefix-run-9 c =
     let s = c .before .before .before .before .before .before .before .before .before .before .before .before .before .before .before .before .before .before .before .before .before .before .before .before .before .before .before .before .before .before .before .before .before .before .before .before .before in
     let a = s .args in
     let kept = s .pre .0 in
     ranks-within (a .job) (buffersOf (a .identifiers .now) (a .identifier-ends .now) (a .bases .now) (a .base-ends .now) (a .marks .now) (a .ranked .now) (a .keys .now) (a .ranks .now) (a .positions .now) (a .placements .now) (a .singles .now) (a .multi .now)) kept (a .ended) (a .out .now) (a .at) (a .out .now) (c .before .before .before .before .before .before .before .before .before .before .before .before .before .enum-told3 .given .1)
 
 slice-aggregate-run-12 : tie.Need-slice-aggregate-run-12
-slice-aggregate-run-12 c = 
+slice-aggregate-run-12 c =
     let s = c .before .before .before .before .before .before .before .before .before .before .before .before .before .before .before .before .before .before .before .before .before .before .before .before .before .before .before .before .before .before .before .before .before .before .before .before .before .before in
     let a = s .args in
     let kept = s .pre .0 in
     sym (length-take-le (a .job .indexed .ranked) (a .ranked .now) (ranks-within (a .job) (buffersOf (a .identifiers .now) (a .identifier-ends .now) (a .bases .now) (a .base-ends .now) (a .marks .now) (a .ranked .now) (a .keys .now) (a .ranks .now) (a .positions .now) (a .placements .now) (a .singles .now) (a .multi .now)) kept (a .ended) (a .out .now) (a .at) (a .out .now) (c .before .before .before .before .before .before .before .before .before .before .before .before .before .before .enum-told3 .given .1)))
 
 run-requires : tie.Need-run-requires
-run-requires c κs = 
+run-requires c κs =
     let s = c .before .before .before .before .before .before .before .before .before .before .before .before .before .before .before .before .before .before .before .before .before .before .before .before .before .before .before .before .before .before .before .before .before .before .before .before .before .before in
     let a = s .args in
     let kept = s .pre .0 in
@@ -315,7 +315,7 @@ same-length-8 : tie.Need-same-length-8
 same-length-8 c = search needs
 
 returns-3 : tie.Need-returns-3
-returns-3 c = 
+returns-3 c =
     let s = c .before .before .before .before .before .before .before .before .before .before .before .before .before .before .before .before .before .before .before .before .before .before .before .before .before .before .before .before .before in
     let a = s .args in
     let kept = s .pre .0 in
@@ -361,7 +361,7 @@ same-length-21 : tie.Need-same-length-21
 same-length-21 c = search needs
 
 returns-4 : tie.Need-returns-4
-returns-4 c = 
+returns-4 c =
     let s = c .before .before .before .before .before .before .before .before .before .before .before .before .before .before .before .before .before .before .before .before .before .before .before .before .before .before .before .before .before .before .before .before .before .before .before .before .before .before .before .before .before .before .before .before .before .before .before .before .before .before in
     let a = s .args in
     let kept = s .pre .0 in
@@ -410,7 +410,7 @@ same-length-35 : tie.Need-same-length-35
 same-length-35 c = search needs
 
 returns-5 : tie.Need-returns-5
-returns-5 c = 
+returns-5 c =
     let s = c .before .before .before .before .before .before .before .before .before .before .before .before .before .before .before .before .before .before .before .before .before .before .before .before .before .before .before .before .before .before .before .before .before .before .before .before .before .before .before .before .before .before .before .before .before .before .before .before .before .before .before in
     let a = s .args in
     let kept = s .pre .0 in

@@ -23,7 +23,7 @@ returns : tie.Need-returns
 returns c = let a = c .before .before .before .before .before .args in sym (ap (begunJob (a .at) (a .job)) (c .before .begun .given .1))
 
 returns-2 : tie.Need-returns-2
-returns-2 c = 
+returns-2 c =
     let a = c .before .before .before .before .before .before .args in
     let begun : AuditState → Advanced = λ x. record { job = record { stage = stages.Supplying; supply = a .job .supply; indexed = a .job .indexed; state = x }; advance = went (a .at) 12 } in
     ap begun (c .fresh-state .ensures) ∙ sym (ap (begunJob (a .at) (a .job)) (c .before .before .begun2 .given .1))

@@ -13,7 +13,7 @@ zero-state-requires : tie.Need-zero-state-requires
 zero-state-requires c κs = search needs
 
 returns : tie.Need-returns
-returns c = 
+returns c =
     let new : AuditState → Job = λ x. record { stage = stages.Beginning; supply = noSupply; indexed = record { ranked = 0; postings = 0 }; state = x } in
     ap new (c .zero-state .ensures)
 
