@@ -4,8 +4,8 @@ use mathlib.Core.Path.{sym}
 use mathlib.Core.List.{[]}
 use native.Mathlib.Omega.{arith}
 use lib.Seq.{length-take-le}
-use Rattle.job.specs.Jobs.{buffersOf}
-use Rattle.job.proofs.Jobs.{nothing-there, first-step, supply-step, open-room, opening-step, lends, ranks-within, postings-within, run-step}
+use Rattle.jobs.specs.Jobs.{buffersOf}
+use Rattle.jobs.proofs.Jobs.{nothing-there, first-step, supply-step, open-room, opening-step, lends, ranks-within, postings-within, run-step}
 use borrow.Author.Needs.{needs}
 use Rattle.job.proofs.advance.Statement.{statement}
 use Rattle.job.proofs.advance.Tie as tie

@@ -1,13 +1,13 @@
--- `job::new_job` meets its contract.
+-- `jobs::new_job` meets its contract.
 -- Assumes nothing.
 use mathlib.Core.Path.{ap}
 use Rattle.audit_rules.specs.declared.settings.AuditState.{AuditState}
-use Rattle.job.specs.declared.JobStage.the-variants as stages
-use Rattle.job.specs.declared.Job.{Job}
-use Rattle.job.specs.Jobs.{noSupply}
+use Rattle.jobs.specs.declared.JobStage.the-variants as stages
+use Rattle.jobs.specs.declared.Job.{Job}
+use Rattle.jobs.specs.Jobs.{noSupply}
 use borrow.Author.Needs.{needs}
-use Rattle.job.proofs.new_job.Statement.{statement}
-use Rattle.job.proofs.new_job.Tie as tie
+use Rattle.jobs.proofs.new_job.Statement.{statement}
+use Rattle.jobs.proofs.new_job.Tie as tie
 
 zero-state-requires : tie.Need-zero-state-requires
 zero-state-requires c κs = search needs

@@ -1,14 +1,14 @@
--- `job::begun_job` meets its contract, answer by answer.
+-- `jobs::begun_job` meets its contract, answer by answer.
 -- Assumes nothing.
 use mathlib.Core.Path.{sym, ap, _∙_}
 use Rattle.audit_rules.specs.declared.settings.AuditState.{AuditState}
 use Rattle.supplying.specs.Supplying.{went}
-use Rattle.job.specs.declared.JobStage.the-variants as stages
-use Rattle.job.specs.declared.Advanced.{Advanced}
-use Rattle.job.specs.Jobs.{begunJob}
+use Rattle.jobs.specs.declared.JobStage.the-variants as stages
+use Rattle.jobs.specs.declared.Advanced.{Advanced}
+use Rattle.jobs.specs.Jobs.{begunJob}
 use borrow.Author.Needs.{needs}
-use Rattle.job.proofs.begun_job.Statement.{statement}
-use Rattle.job.proofs.begun_job.Tie as tie
+use Rattle.jobs.proofs.begun_job.Statement.{statement}
+use Rattle.jobs.proofs.begun_job.Tie as tie
 
 enum-known-begun : tie.Need-enum-known-begun
 enum-known-begun c = search needs

@@ -21,10 +21,10 @@ use Rattle.supplying.specs.declared.Opened.{Opened}
 use Rattle.supplying.specs.declared.Opened.the-variants as opened
 use Rattle.supplying.specs.Supplying.{went, SupplyKept}
 use Rattle.running.specs.Running.{Passes}
-use Rattle.job.specs.declared.JobStage.{JobStage}
-use Rattle.job.specs.declared.JobStage.the-variants as stages
-use Rattle.job.specs.declared.Job.{Job}
-use Rattle.job.specs.declared.Advanced.{Advanced}
+use Rattle.jobs.specs.declared.JobStage.{JobStage}
+use Rattle.jobs.specs.declared.JobStage.the-variants as stages
+use Rattle.jobs.specs.declared.Job.{Job}
+use Rattle.jobs.specs.declared.Advanced.{Advanced}
 
 -- ---- a job
 

@@ -1,10 +1,10 @@
--- `job::opened_job` meets its contract, answer by answer.
+-- `jobs::opened_job` meets its contract, answer by answer.
 -- Assumes nothing.
 use mathlib.Core.Path.{sym, ap}
-use Rattle.job.specs.Jobs.{openedJob}
+use Rattle.jobs.specs.Jobs.{openedJob}
 use borrow.Author.Needs.{needs}
-use Rattle.job.proofs.opened_job.Statement.{statement}
-use Rattle.job.proofs.opened_job.Tie as tie
+use Rattle.jobs.proofs.opened_job.Statement.{statement}
+use Rattle.jobs.proofs.opened_job.Tie as tie
 
 enum-known-opened : tie.Need-enum-known-opened
 enum-known-opened c = search needs

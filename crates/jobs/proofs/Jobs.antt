@@ -31,10 +31,10 @@ use Rattle.supplying.specs.declared.Opened.the-variants as opened
 use Rattle.supplying.specs.Supplying.{Begins, SupplyKept, SupplyTold, OpensAt}
 use Rattle.running.specs.declared.RunStep.{RunStep}
 use Rattle.running.specs.Running.{Passes, Runs, Ran}
-use Rattle.job.specs.declared.JobStage.the-variants as stages
-use Rattle.job.specs.declared.Job.{Job}
-use Rattle.job.specs.declared.Advanced.{Advanced}
-use Rattle.job.specs.Jobs.{begunJob, openedJob, Buffers, buffersOf, suppliedOf, heldBy, stageAt, stageOf, KeptAt, JobKept, JobAdvances}
+use Rattle.jobs.specs.declared.JobStage.the-variants as stages
+use Rattle.jobs.specs.declared.Job.{Job}
+use Rattle.jobs.specs.declared.Advanced.{Advanced}
+use Rattle.jobs.specs.Jobs.{begunJob, openedJob, Buffers, buffersOf, suppliedOf, heldBy, stageAt, stageOf, KeptAt, JobKept, JobAdvances}
 
 take-zeros : (n m : ℕ) → n ≤ m → take n (replicate {A = ℕ} m 0) ≡ replicate n 0
 take-zeros zero m h = refl
