@@ -58,15 +58,15 @@ pub fn catch(program: &OsStr, stream: &[u8]) -> io::Result<Vec<u8>> {
     let mut output = child.stdout.take().expect("a pipe");
     let mut lines = Vec::new();
     thread::scope(|scope| {
-        let fed = scope.spawn(move || input.write_all(stream));
-        output.read_to_end(&mut lines)?;
-        fed.join().expect("the feeding thread ends")
+        // A program that ends before its stream breaks the pipe; its lines show that.
+        scope.spawn(move || drop(input.write_all(stream)));
+        output.read_to_end(&mut lines)
     })?;
     let status = child.wait()?;
     if status.success() {
         Ok(lines)
     } else {
-        Err(io::Error::other(format!("{}: {status}", program.display())))
+        Err(io::Error::other(status.to_string()))
     }
 }
 

@@ -94,9 +94,7 @@ fn crowded(rng: &mut Rng) -> Set {
     let (targets, length) = (1000, 5000);
     let mut c = Catalogue::default();
     for k in 0..targets {
-        let bases: Vec<u8> = (0..length)
-            .map(|_| if rng.below(12) == 0 { *rng.pick(b"CGT") } else { b'A' })
-            .collect();
+        let bases: Vec<u8> = (0..length).map(|_| if rng.below(12) == 0 { *rng.pick(b"CGT") } else { b'A' }).collect();
         c.push(format!("unitig_{k:06}").as_bytes(), &bases, 0);
     }
     let reads = (0..5_000)
@@ -236,7 +234,7 @@ fn run_stream(rng: &mut Rng) -> bool {
     let (mut a, mut b) = (Vec::new(), Vec::new());
     let mut written = Vec::new();
     for _ in 0..3 {
-        written = timed(&mut a, || jobs::catch(&program, &job)).expect("catch runs");
+        written = timed(&mut a, || jobs::catch(&program, &job)).unwrap_or_else(|e| panic!("{program:?}: {e}"));
         timed(&mut b, || {
             let mut audit = AuditAccumulator::new(&unitigs, jobs::config(limit)).expect("the Rust opens");
             fragments.iter().for_each(|f| drop(black_box(audit.audit_fragment(f))));
