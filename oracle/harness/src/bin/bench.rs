@@ -209,27 +209,32 @@ fn stream_targets(rng: &mut Rng) -> Catalogue {
     c
 }
 
-/// A job of single reads with qualities, from both strands and one in ten random. Whether all lines were equal.
+/// Single reads of 100 bases with qualities, from both strands, and one in ten random.
+fn stream_fragments(rng: &mut Rng, c: &Catalogue) -> Vec<Fragment> {
+    let read = |i: u64| {
+        let at = rng.below(8) * 112 + rng.below(13);
+        let bases = match i % 10 {
+            0 => rng.bases(100, b"ACGT"),
+            k if k % 2 == 1 => c.bases[at..at + 100].to_vec(),
+            _ => turned(&c.bases[at..at + 100]),
+        };
+        let qualities = (0..100).map(|_| rng.within(33, 126) as u8).collect();
+        jobs::single(i, bases, qualities)
+    };
+    (0..100_000).map(read).collect()
+}
+
+/// Three times a job on both sides, one after the other; whether all lines were equal.
 fn run_stream(rng: &mut Rng) -> bool {
     let limit = 10;
     let c = stream_targets(rng);
-    let fragments: Vec<Fragment> = (0..100_000)
-        .map(|i| {
-            let at = rng.below(8) * 112 + rng.below(13);
-            let bases = match i % 10 {
-                0 => rng.bases(100, b"ACGT"),
-                k if k % 2 == 1 => c.bases[at..at + 100].to_vec(),
-                _ => turned(&c.bases[at..at + 100]),
-            };
-            let qualities = (0..100).map(|_| rng.within(33, 126) as u8).collect();
-            jobs::single(i, bases, qualities)
-        })
-        .collect();
+    let fragments = stream_fragments(rng, &c);
     let job = jobs::stream(&c, &fragments, limit);
     let (n, bases, reads) = (c.marks.len(), c.bases.len(), fragments.len());
     println!("stream: {n} targets, {bases} bases, {reads} reads, {} bytes, limit {limit}", job.len());
 
-    let program = env::var_os("CATCH").unwrap_or_else(|| "target/bin/catch".into());
+    let named = env::var_os("CATCH").filter(|name| !name.is_empty());
+    let program = named.unwrap_or_else(|| "target/bin/catch".into());
     let mut unitigs = theirs::unitigs(&c).expect("a right catalogue");
     let (mut a, mut b) = (Vec::new(), Vec::new());
     let mut written = Vec::new();
