@@ -3,6 +3,8 @@
 
 A target is closed where its header line has the word `closed` behind the identifier. Two files of reads
 are pairs, record by record. Bases and qualities go into the job as they stand; `catch` judges them.
+
+    make_job.py --floor 20 --limit 10 targets.fasta reads.fastq > traps.job
 """
 
 import argparse
