@@ -5,6 +5,16 @@ missing() {
     exit 2
 }
 
+# Proves and builds the program that the set `stream` runs, if CATCH names no other one.
+prepare_catch() {
+    [ -z "${CATCH:-}" ] || return 0
+    echo "oracle: proving and building catch"
+    rt check catch >"$here/target/catch.log" 2>&1 || {
+        tail -n 20 "$here/target/catch.log" | cut -c 1-400 >&2
+        missing "catch is not built; see oracle/target/catch.log"
+    }
+}
+
 root=$(dirname "$here")
 cd "$root"
 export VERITASM_SRC="${VERITASM_SRC:-../shared/docs/src}"

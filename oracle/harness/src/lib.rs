@@ -1,6 +1,7 @@
 //! The two sides, the rules in plain words, and random inputs.
 
 pub mod inputs;
+pub mod jobs;
 #[rustfmt::skip]
 pub mod ours;
 pub mod rules;

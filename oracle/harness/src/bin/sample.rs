@@ -1,8 +1,8 @@
 //! Writes a sample of the Rust's answers as the input and the expected output of the program `rust_cases`: sample FOLDER.
 
-use harness::inputs::{Rng, catalogue, read, seed_length};
-use harness::theirs::{self, INDETERMINATE, Mapper};
-use harness::{Catalogue, MOST_LIMIT, rules};
+use harness::inputs::{catalogue, read, seed_length, Rng};
+use harness::theirs::{self, Mapper, INDETERMINATE};
+use harness::{rules, Catalogue, MOST_LIMIT};
 use std::collections::HashMap;
 use std::{env, fmt::Write, fs, path::Path};
 
@@ -108,6 +108,13 @@ fn main() {
     }
     fs::write(Path::new(&folder).join("stdin"), &cases).expect("stdin is written");
     fs::write(Path::new(&folder).join("stdout"), &lines).expect("stdout is written");
-    println!("{n} cases of {} kinds; indeterminate {}, unmapped {}, single {}, multiple {}", kinds.len(), states[2], states[3], states[4], states[5]);
+    println!(
+        "{n} cases of {} kinds; indeterminate {}, unmapped {}, single {}, multiple {}",
+        kinds.len(),
+        states[2],
+        states[3],
+        states[4],
+        states[5]
+    );
     println!("{} bytes in, {} bytes out", cases.len(), lines.len());
 }
