@@ -38,6 +38,13 @@ module _ (before after : Stage) (bytes out : List ℕ) (at : ℕ) (out′ : List
   pub refuses : (ended : Bool) (number : ℕ) → Refuses number out at out′ r → Ends before bytes (refusalLine number) → Advances ended before bytes out at out′ r after
   refuses ended number f e = last-step ended lineRoom (refusalLine number) (omega arith) (f .adds) (f .last) (ends-told before after bytes ended (refusalLine number) e)
 
+-- a command that is not whole, at the end of the stream and before it
+pub stays-ended : (ended : Bool) (out : List ℕ) (at : ℕ) (out′ : List ℕ) (r : Advance) → ended ≡ true → Refuses 20 out at out′ r → Stays ended out at out′ r
+stays-ended ended out at out′ r e f = subst (λ b. Stays b out at out′ r) (sym e) f
+
+pub stays-open : (ended : Bool) (out : List ℕ) (at : ℕ) (r : Advance) → ended ≡ false → Waits at r → Stays ended out at out r
+stays-open ended out at r e w = subst (λ b. Stays b out at out r) (sym e) (w, refl)
+
 -- a step that changes nothing
 module _ (stage : Stage) (bytes out : List ℕ) (at : ℕ) (out′ : List ℕ) (r : Advance) (few : length bytes ≤ longestFragment) where
   pub waits : Waits at r → out′ ≡ out → Advances false stage bytes out at out′ r stage

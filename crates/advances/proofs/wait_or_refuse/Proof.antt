@@ -1,6 +1,6 @@
 -- `advances::wait_or_refuse` meets its contract: 20 at the end of the stream, else nothing.
 -- Assumes nothing.
-use mathlib.Core.Path.{refl}
+use Rattle.advances.proofs.Advancing.{stays-ended, stays-open}
 use borrow.Author.Needs.{needs}
 use Rattle.advances.proofs.wait_or_refuse.Statement.{statement}
 use Rattle.advances.proofs.wait_or_refuse.Tie as tie
@@ -12,13 +12,17 @@ same-length : tie.Need-same-length
 same-length c = search needs
 
 returns : tie.Need-returns
-returns c = rw (c .before .before .before .before .if1 .taken) (c .before .before .refuse .ensures)
+returns c =
+    let a = c .before .before .before .before .before .before .args in
+    stays-ended (a .ended) (a .out .now) (a .at) _ _ (c .before .before .before .before .if1 .taken) (c .before .before .refuse .ensures)
 
 wait-requires : tie.Need-wait-requires
 wait-requires c κs = search needs
 
 returns-2 : tie.Need-returns-2
-returns-2 c = rw (c .before .if1 .left) (c .wait .ensures, refl)
+returns-2 c =
+    let a = c .before .before .before .args in
+    stays-open (a .ended) (a .out .now) (a .at) _ (c .before .if1 .left) (c .wait .ensures)
 
 pub wait-or-refuse-spec : {M : Type 1} → statement M
 wait-or-refuse-spec =
