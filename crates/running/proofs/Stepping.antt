@@ -36,11 +36,10 @@ use Rattle.catch_rules.proofs.Steps.{fragment-wrong, fragment-short, run-other,
 use Rattle.advances.specs.declared.Advance.{Advance}
 use Rattle.advances.specs.declared.Progress.{Progress}
 use Rattle.advances.specs.declared.Progress.the-variants as progress
-use Rattle.advances.specs.Advancing as advancing
-use Rattle.advances.specs.Advancing.{stepRoom, Advances, Refuses, Waits, Stays}
+use Rattle.advances.specs.Advancing.{stepRoom, Tells, Advances, Refuses, Waits, Stays}
 use Rattle.advances.proofs.Advancing.{ends-told, last-step, refuses, waits, stays}
 use Rattle.told_fragments.specs.declared.ToldFragment.{ToldFragment}
-use Rattle.told_fragments.specs.Told.{fragmentAt, TellLent, Tells}
+use Rattle.told_fragments.specs.Told.{fragmentAt, TellLent, TellsFragment}
 use Rattle.running.specs.declared.RunStep.{RunStep}
 use Rattle.running.specs.Running.{progressOf, Passes, Runs, Ran}
 use Rattle.running.proofs.Passing.{within-bounds, named, each-counted, lent-tested, lent-audited}
@@ -132,7 +131,7 @@ module _ (c : Catalogue) (ranked ks rs os : List ℕ) (h : Held) (entries : List
           room = room;
         }
 
-    module _ (t : ToldFragment) (k : Counters) (entries′ : List ℕ) (tells : Tells (rankedSequences (c .bases) (c .baseEnds) ranked) ranked (names c) h bytes head t k entries entries′ out at out′) where
+    module _ (t : ToldFragment) (k : Counters) (entries′ : List ℕ) (tells : TellsFragment (rankedSequences (c .bases) (c .baseEnds) ranked) ranked (names c) h bytes head t k entries entries′ out at out′) where
       abbrev after : Held
       after = record { state = t .audit .state; counters = k }
 
@@ -146,7 +145,7 @@ module _ (c : Catalogue) (ranked ks rs os : List ℕ) (h : Held) (entries : List
       ran-accepted rows f p g =
           let w = fragment-goes c ranked ks rs os h entries lent bytes head (read .0) (t .audit) k entries′ audits rows f in
           record {
-            advances = record { text = text; adds = tells .adds; told = subst (λ x. advancing.Tells ended (running c h) (3 ∷ bytes) x text (running c after)) (sym g) (omega (arith, read .0 .within), w .0) };
+            advances = record { text = text; adds = tells .adds; told = subst (λ x. Tells ended (running c h) (3 ∷ bytes) x text (running c after)) (sym g) (omega (arith, read .0 .within), w .0) };
             still-passes = w .1;
           }
 
@@ -163,6 +162,6 @@ module _ (c : Catalogue) (ranked ks rs os : List ℕ) (h : Held) (entries : List
               let w = fragment-refuses c ranked ks rs os h entries lent bytes head (read .0) (t .audit) k entries′ audits number a in
               let ends : Ends (running c h) (3 ∷ bytes) text = rw a (w .0) in
               record {
-                advances = record { text = text; adds = tells .adds; told = subst (λ x. advancing.Tells ended (running c h) (3 ∷ bytes) x text (running c after)) (sym (q ∙ ap (λ y. progressOf y n) a)) (ends-told (running c h) (running c after) (3 ∷ bytes) ended text ends) };
+                advances = record { text = text; adds = tells .adds; told = subst (λ x. Tells ended (running c h) (3 ∷ bytes) x text (running c after)) (sym (q ∙ ap (λ y. progressOf y n) a)) (ends-told (running c h) (running c after) (3 ∷ bytes) ended text ends) };
                 still-passes = subst (Passes c) (sym (w .1)) (lent .passes);
               }

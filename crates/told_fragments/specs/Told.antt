@@ -35,7 +35,7 @@ pub record TellLent (bases baseEnds ranked ks rs os identifiers identifierEnds b
   pub room : at + stepRoom ≤ length out
 
 -- it is audited, and the lines of its answer are written
-pub record Tells (ss : List (List ℕ)) (ranked : List ℕ) (names : List (List ℕ)) (h : Held) (bytes : List ℕ) (head : FragmentHead) (r : ToldFragment) (k′ : Counters) (entries entries′ out : List ℕ) (at : ℕ)
+pub record TellsFragment (ss : List (List ℕ)) (ranked : List ℕ) (names : List (List ℕ)) (h : Held) (bytes : List ℕ) (head : FragmentHead) (r : ToldFragment) (k′ : Counters) (entries entries′ out : List ℕ) (at : ℕ)
     (out′ : List ℕ) : Type 0 where
   pub audited : TestedAudited auditOffset ss (byIndex auditSeed) ranked h (fragmentAt bytes head) (r .audit) k′ entries entries′
   pub adds :

@@ -5,7 +5,7 @@ ghost use Rattle.names.specs.Lent.{lentCut};
 ghost use Rattle.index.specs.Index.{lentSequences};
 ghost use Rattle.ledger.specs.Booking.{countersOf, leftCounters};
 ghost use Rattle.audit_rules.specs.Calls.{lentHeld};
-ghost use Rattle.told_fragments.specs.Told.{TellLent, Tells};
+ghost use Rattle.told_fragments.specs.Told.{TellLent, TellsFragment};
 use audit_rules::calls::FragmentAudit;
 use audit_rules::settings::AuditState;
 use fragment_lines::put_answer;
@@ -46,7 +46,7 @@ pub fn tell_fragment(
 ) -> ToldFragment
     requires { ⌜ TellLent (now bases) (now «base_ends») (now ranked) (now keys) (now ranks) (now positions) (now identifiers) (now «identifier_ends») (now bytes) head (state .settings)
         (countersOf (now placements) (now singles) (now multi)) (now entries) (now out) at ⌝ }
-    ensures { λ r. ⌜ Tells (lentSequences bases «base_ends» ranked) (old ranked) (lentCut identifiers «identifier_ends») (lentHeld state placements singles multi) (old bytes) head r
+    ensures { λ r. ⌜ TellsFragment (lentSequences bases «base_ends» ranked) (old ranked) (lentCut identifiers «identifier_ends») (lentHeld state placements singles multi) (old bytes) head r
         (leftCounters placements singles multi) (old entries) (new entries) (old out) at (new out) ⌝ }
 {
     let first = head.first;
