@@ -1,15 +1,12 @@
 // A job read from one file descriptor, and its lines written to another.
 ghost use mathlib.Core.Path.{_≡_};
-ghost use Prim.Native.Nat.{_-_};
+ghost use Prim.Native.Nat.{_-_, _≤_};
 ghost use lib.ListN.{length};
 ghost use Rattle.promises.specs.Slice.{old, new};
 ghost use Rattle.streams.specs.Streams.{AtHand, Kept, Refilled};
-use advances::Progress;
-use job::advance;
-use job::new_job;
 
 // How many bytes are at hand, and whether the input has ended or could not be read.
-struct Refill {
+struct Filled {
     end: usize,
     ended: bool,
     failed: bool,
@@ -29,103 +26,25 @@ fn shift(buffer: &mut [u8], from: usize, end: usize) -> usize
     n
 }
 
+// The lesser of two numbers.
+fn least(a: usize, b: usize) -> usize
+    ensures { λ r. ⌜ (r ≤ a) × (r ≤ b) ⌝ }
+{
+    if a < b { a } else { b }
+}
+
 // Moves the bytes at hand to the front, and reads up to `piece` bytes behind them.
-fn refill(buffer: &mut [u8], from: usize, end: usize, input: i32, piece: usize) -> Refill
+fn refill(buffer: &mut [u8], from: usize, end: usize, input: i32, piece: usize) -> Filled
     requires { ⌜ AtHand (now buffer) from end ⌝ }
     ensures { λ r. ⌜ Refilled (old buffer) from end (new buffer) (r .end) ⌝ }
 {
     let kept = shift(buffer, from, end);
-    let room = buffer.len() - kept;
-    let mut most = room;
-    if piece < room {
-        most = piece;
-    }
-    let got = libc::read(input, &mut buffer[kept..kept + most]);
-    let n = io::count(got, &buffer[kept..kept + most]);
-    Refill {
+    let upto = kept + least(buffer.len() - kept, piece);
+    let got = libc::read(input, &mut buffer[kept..upto]);
+    let n = io::count(got, &buffer[kept..upto]);
+    Filled {
         end: kept + n,
         ended: n == 0,
         failed: got < 0,
-    }
-}
-
-// Runs a job. Its input is read in pieces of at most `piece` bytes; what is written is out before more input is waited for.
-pub fn run_stream(input: i32, output: i32, piece: usize) {
-    let mut buffer = [0u8; 32768];
-    let mut out = [0u8; 131072];
-    let mut identifiers = [0u8; 4080];
-    let mut identifier_ends = [0usize; 16];
-    let mut bases = [0u8; 1024];
-    let mut base_ends = [0usize; 16];
-    let mut marks = [0u8; 16];
-    let mut ranked = [0usize; 4096];
-    let mut keys = [0u64; 1024];
-    let mut ranks = [0u64; 1024];
-    let mut positions = [0u64; 1024];
-    let mut placements = [0u64; 16];
-    let mut singles = [0u64; 16];
-    let mut multi = [0u64; 16];
-    let mut entries = [0u64; 1024];
-    let mut job = new_job();
-    let mut from: usize = 0;
-    let mut end: usize = 0;
-    let mut at: usize = 0;
-    let mut ended = false;
-    let mut turns = u64::MAX;
-    while 0 < turns {
-        turns -= 1;
-        let r = advance(
-            &mut out,
-            &mut identifiers,
-            &mut identifier_ends,
-            &mut bases,
-            &mut base_ends,
-            &mut marks,
-            &mut ranked,
-            &mut keys,
-            &mut ranks,
-            &mut positions,
-            &mut placements,
-            &mut singles,
-            &mut multi,
-            &mut entries,
-            at,
-            &buffer[from..end],
-            ended,
-            job,
-        );
-        let next = r.job;
-        let step = r.advance;
-        let progress = step.progress;
-        job = next;
-        at = step.at;
-        match progress {
-            Progress::Ended => {
-                io::write_all(output, &out[..at]);
-                return;
-            }
-            Progress::Went(n) => {
-                from += n;
-                if 32768 < at {
-                    if !io::write_all(output, &out[..at]) {
-                        return;
-                    }
-                    at = 0;
-                }
-            }
-            Progress::More => {
-                if !io::write_all(output, &out[..at]) {
-                    return;
-                }
-                at = 0;
-                let filled = refill(&mut buffer, from, end, input, piece);
-                if filled.failed {
-                    return;
-                }
-                from = 0;
-                end = filled.end;
-                ended = filled.ended;
-            }
-        }
     }
 }
