@@ -4,6 +4,7 @@ use mathlib.Core.List.{List, [], _∷_, _++_}
 use Prim.Native.Nat.{ℕ, suc, _+_, _-_, _≤_, _<_}
 use native.Mathlib.Numerals.{add-one}
 use native.Mathlib.Omega.{arith}
+use borrow.Rule.Slice.PartMut.{putMid, take-put}
 use lib.ListN.{length, take, drop, getD, set, length-set, length-drop}
 use lib.Seq.{take-suc, take-suc-set, drop-set-lt, drop-drop, getD-drop}
 use Rattle.lists.specs.Cut.{window}
@@ -41,3 +42,7 @@ moved-one b₀ from n b i m h = record { fits = m .fits; same = length-set b i _
 
 pub moved-all : {b₀ : List ℕ} {from n : ℕ} {b : List ℕ} {i : ℕ} → Moved b₀ from n b i → n ≤ i → Kept b₀ from b n
 moved-all {b₀} {from} {n} {b} {i} m h = let e : n ≡ i = omega (arith, m .within) in rw e (m .front)
+
+-- they stay there where others are put behind them
+pub kept-behind : (b₀ : List ℕ) (from n : ℕ) (b : List ℕ) (a k : ℕ) (ys : List ℕ) → a ≡ n → Kept b₀ from b a → a ≤ length b → Kept b₀ from (putMid a k b ys) n
+kept-behind b₀ from n b a k ys e h fits = rw (← e) (take-put a k b ys fits ∙ h)

@@ -1,4 +1,7 @@
 use borrow.Author.Needs.{needs}
+use native.Mathlib.Omega.{arith}
+use Prim.Native.Nat.{_+_, _-_}
+use Rattle.streams.proofs.Shifting.{kept-behind}
 use Rattle.streams.proofs.refill.Statement.{statement}
 use Rattle.streams.proofs.refill.Tie as tie
 use Rattle.streams.proofs.refill.Reads as reads
@@ -66,7 +69,10 @@ same-length c = search needs
 
 -- src/lib.rt:37:1
 returns : tie.Need-returns
-returns c = ?
+returns c = record {
+    kept = kept-behind (c .before .before .before .before .before .before .before .before .before .before .before .before .before .args .buffer .now) (c .before .before .before .before .before .before .before .before .before .before .before .before .before .args .from) _ _ _ (c .before .before .before .before .before .before .before .before .before .before .shift .result + c .before .before .before .before .before .before .before .least .result - c .before .before .before .before .before .before .before .before .before .before .shift .result) (c .before .before .before .before .before .read .last .1 .0) (c .before .before .before .before .before .before .before .before .before .before .shift .ensures .0) (c .before .before .before .before .before .before .before .before .before .before .shift .ensures .1) (omega arith);
+    more = omega arith;
+    fits = search needs }
 
 pub refill-spec : {M : Type 1} → statement M
 refill-spec =
