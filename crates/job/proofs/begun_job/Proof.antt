@@ -1,29 +1,32 @@
+-- `job::begun_job` meets its contract, answer by answer.
+-- Assumes nothing.
+use mathlib.Core.Path.{sym, ap, _∙_}
+use Rattle.audit_rules.specs.declared.settings.AuditState.{AuditState}
+use Rattle.supplying.specs.Supplying.{went}
+use Rattle.job.specs.declared.JobStage.the-variants as stages
+use Rattle.job.specs.declared.Advanced.{Advanced}
+use Rattle.job.specs.Jobs.{begunJob}
 use borrow.Author.Needs.{needs}
 use Rattle.job.proofs.begun_job.Statement.{statement}
 use Rattle.job.proofs.begun_job.Tie as tie
-use Rattle.job.proofs.begun_job.Reads as reads
-use Rattle.job.proofs.begun_job.Lts as lts
-use Rattle.fresh.proofs.fresh_state.Reads as fresh-state-reads
 
--- src/lib.rt:70:24
 enum-known-begun : tie.Need-enum-known-begun
 enum-known-begun c = search needs
 
--- src/lib.rt:71:21
 enum-known-begun-2 : tie.Need-enum-known-begun-2
 enum-known-begun-2 c = search needs
 
--- src/lib.rt:76:24
 fresh-state-requires : tie.Need-fresh-state-requires
 fresh-state-requires c κs = search needs
 
--- src/lib.rt:64:1
 returns : tie.Need-returns
-returns c = ?
+returns c = let a = c .before .before .before .before .before .args in sym (ap (begunJob (a .at) (a .job)) (c .before .begun .given .1))
 
--- src/lib.rt:64:1
 returns-2 : tie.Need-returns-2
-returns-2 c = ?
+returns-2 c = 
+    let a = c .before .before .before .before .before .before .args in
+    let begun : AuditState → Advanced = λ x. record { job = record { stage = stages.Supplying; supply = a .job .supply; indexed = a .job .indexed; state = x }; advance = went (a .at) 12 } in
+    ap begun (c .fresh-state .ensures) ∙ sym (ap (begunJob (a .at) (a .job)) (c .before .before .begun2 .given .1))
 
 pub begun-job-spec : {M : Type 1} → statement M
 begun-job-spec =

@@ -1,17 +1,21 @@
+-- `job::new_job` meets its contract.
+-- Assumes nothing.
+use mathlib.Core.Path.{ap}
+use Rattle.audit_rules.specs.declared.settings.AuditState.{AuditState}
+use Rattle.job.specs.declared.JobStage.the-variants as stages
+use Rattle.job.specs.declared.Job.{Job}
+use Rattle.job.specs.Jobs.{noSupply}
 use borrow.Author.Needs.{needs}
 use Rattle.job.proofs.new_job.Statement.{statement}
 use Rattle.job.proofs.new_job.Tie as tie
-use Rattle.job.proofs.new_job.Reads as reads
-use Rattle.job.proofs.new_job.Lts as lts
-use Rattle.fresh.proofs.zero_state.Reads as zero-state-reads
 
--- src/lib.rt:59:16
 zero-state-requires : tie.Need-zero-state-requires
 zero-state-requires c κs = search needs
 
--- src/lib.rt:45:1
 returns : tie.Need-returns
-returns c = ?
+returns c = 
+    let new : AuditState → Job = λ x. record { stage = stages.Beginning; supply = noSupply; indexed = record { ranked = 0; postings = 0 }; state = x } in
+    ap new (c .zero-state .ensures)
 
 pub new-job-spec : {M : Type 1} → statement M
 new-job-spec = tie.close (tie.spec zero-state-requires returns)
