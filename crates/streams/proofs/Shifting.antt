@@ -35,6 +35,7 @@ moved-one b₀ from n b i m h = record { fits = m .fits; same = length-set b i _
         let inside : i < length b = omega (arith, m .same, m .fits) in
         let there : i < length (drop from b₀) = simp length-drop (omega (arith, m .fits)) in
         rw (add-one, take-suc-set b i, take-suc (drop from b₀) i 0, getD-drop from b₀ i 0, m .front, unmoved b₀ from b i (m .behind)) refl
+
     behind : drop (i + 1) (set b i (getD b (from + i) 0)) ≡ drop (i + 1) b₀
     behind =
         let less : i < i + 1 = omega arith in

@@ -3,13 +3,25 @@ ghost use mathlib.Core.Path.{_≡_};
 ghost use Prim.Native.Nat.{_-_, _≤_};
 ghost use lib.ListN.{length};
 ghost use Rattle.promises.specs.Slice.{old, new};
-ghost use Rattle.streams.specs.Streams.{AtHand, Kept, Refilled};
+ghost use Rattle.streams.specs.Streams.{AtHand, Kept, Refilled, Stepped, Turned};
+use advances::Progress;
+use job::advance;
+use job::new_job;
 
 // How many bytes are at hand, and whether the input has ended or could not be read.
 struct Filled {
     end: usize,
     ended: bool,
     failed: bool,
+}
+
+// What is at hand behind a step, and where the output ends; or all is done.
+struct Turn {
+    done: bool,
+    from: usize,
+    end: usize,
+    ended: bool,
+    at: usize,
 }
 
 // Moves the bytes from one place up to another to the front, and tells how many there are.
@@ -46,5 +58,142 @@ fn refill(buffer: &mut [u8], from: usize, end: usize, input: i32, piece: usize) 
         end: kept + n,
         ended: n == 0,
         failed: got < 0,
+    }
+}
+
+// What follows a step: on behind the bytes that it went, or the end, or more input. Output is written where the next step
+// might lack room, and before more input is waited for.
+fn follow(
+    buffer: &mut [u8],
+    out: &[u8],
+    at: usize,
+    progress: Progress,
+    from: usize,
+    end: usize,
+    ended: bool,
+    input: i32,
+    output: i32,
+    piece: usize,
+) -> Turn
+    requires { ⌜ AtHand (now buffer) from end × Stepped progress from end × (at ≤ length (now out)) ⌝ }
+    ensures { λ r. ⌜ Turned (new buffer) r ⌝ }
+{
+    if let Progress::Went(n) = progress {
+        if at <= 32768 {
+            return Turn {
+                done: false,
+                from: from + n,
+                end,
+                ended,
+                at,
+            };
+        }
+    }
+    let written = io::write_all(output, &out[..at]);
+    match progress {
+        Progress::Ended => Turn {
+            done: true,
+            from,
+            end,
+            ended,
+            at: 0,
+        },
+        Progress::Went(n) => Turn {
+            done: !written,
+            from: from + n,
+            end,
+            ended,
+            at: 0,
+        },
+        Progress::More => {
+            if !written {
+                return Turn {
+                    done: true,
+                    from,
+                    end,
+                    ended,
+                    at: 0,
+                };
+            }
+            let filled = refill(buffer, from, end, input, piece);
+            Turn {
+                done: filled.failed,
+                from: 0,
+                end: filled.end,
+                ended: filled.ended,
+                at: 0,
+            }
+        }
+    }
+}
+
+// Runs a job. Its input is read in pieces of at most `piece` bytes; what is written is out before more input is waited for.
+pub fn run_stream(input: i32, output: i32, piece: usize) {
+    let mut buffer = [0u8; 32768];
+    let mut out = [0u8; 131072];
+    let mut identifiers = [0u8; 4080];
+    let mut identifier_ends = [0usize; 16];
+    let mut bases = [0u8; 1024];
+    let mut base_ends = [0usize; 16];
+    let mut marks = [0u8; 16];
+    let mut ranked = [0usize; 4096];
+    let mut keys = [0u64; 1024];
+    let mut ranks = [0u64; 1024];
+    let mut positions = [0u64; 1024];
+    let mut placements = [0u64; 16];
+    let mut singles = [0u64; 16];
+    let mut multi = [0u64; 16];
+    let mut entries = [0u64; 1024];
+    let mut job = new_job();
+    let mut from: usize = 0;
+    let mut end: usize = 0;
+    let mut ended = false;
+    let mut at: usize = 0;
+    let mut turns = u64::MAX;
+    while 0 < turns {
+        let r = advance(
+            &mut out,
+            &mut identifiers,
+            &mut identifier_ends,
+            &mut bases,
+            &mut base_ends,
+            &mut marks,
+            &mut ranked,
+            &mut keys,
+            &mut ranks,
+            &mut positions,
+            &mut placements,
+            &mut singles,
+            &mut multi,
+            &mut entries,
+            at,
+            &buffer[from..end],
+            ended,
+            job,
+        );
+        let next = r.job;
+        let step = r.advance;
+        let progress = step.progress;
+        let turn = follow(
+            &mut buffer,
+            &out,
+            step.at,
+            progress,
+            from,
+            end,
+            ended,
+            input,
+            output,
+            piece,
+        );
+        if turn.done {
+            return;
+        }
+        job = next;
+        from = turn.from;
+        end = turn.end;
+        ended = turn.ended;
+        at = turn.at;
+        turns -= 1;
     }
 }

@@ -70,9 +70,10 @@ same-length c = search needs
 -- src/lib.rt:37:1
 returns : tie.Need-returns
 returns c = record {
-    kept = kept-behind (c .before .before .before .before .before .before .before .before .before .before .before .before .before .args .buffer .now) (c .before .before .before .before .before .before .before .before .before .before .before .before .before .args .from) _ _ _ (c .before .before .before .before .before .before .before .before .before .before .shift .result + c .before .before .before .before .before .before .before .least .result - c .before .before .before .before .before .before .before .before .before .before .shift .result) (c .before .before .before .before .before .read .last .1 .0) (c .before .before .before .before .before .before .before .before .before .before .shift .ensures .0) (c .before .before .before .before .before .before .before .before .before .before .shift .ensures .1) (omega arith);
-    more = omega arith;
-    fits = search needs }
+  kept = kept-behind (c .before .before .before .before .before .before .before .before .before .before .before .before .before .args .buffer .now) (c .before .before .before .before .before .before .before .before .before .before .before .before .before .args .from) _ _ _ (c .before .before .before .before .before .before .before .before .before .before .shift .result + c .before .before .before .before .before .before .before .least .result - c .before .before .before .before .before .before .before .before .before .before .shift .result) (c .before .before .before .before .before .read .last .1 .0) (c .before .before .before .before .before .before .before .before .before .before .shift .ensures .0) (c .before .before .before .before .before .before .before .before .before .before .shift .ensures .1) (omega arith);
+  more = omega arith;
+  fits = search needs;
+}
 
 pub refill-spec : {M : Type 1} → statement M
 refill-spec =

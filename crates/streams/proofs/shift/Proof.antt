@@ -51,7 +51,7 @@ same-length c = omega arith
 
 -- src/lib.rt:16:1
 returns : tie.Need-returns Inv-loop μ-loop
-returns c = (refl , moved-all (c .before .loop .inv) (omega arith))
+returns c = (refl, moved-all (c .before .loop .inv) (omega arith))
 
 pub shift-spec : {M : Type 1} → statement M
 shift-spec =
