@@ -29,6 +29,12 @@ Stepped (progress.Went n) from end = from + n ≤ end
 Stepped progress.Ended from end = from ≤ end
 Stepped progress.More from end = from ≤ end
 
+-- a step, with the bytes that were at hand and the output up to its end
+pub record Steps (buffer out : List ℕ) (p : Progress) (from end at : ℕ) : Type 0 where
+  pub hand : AtHand buffer from end
+  pub went : Stepped p from end
+  pub written : at ≤ length out
+
 -- the most bytes of output that are kept back
 abbrev pub keptBack : ℕ
 keptBack = 32768

@@ -3,7 +3,7 @@ ghost use mathlib.Core.Path.{_≡_};
 ghost use Prim.Native.Nat.{_-_, _≤_};
 ghost use lib.ListN.{length};
 ghost use Rattle.promises.specs.Slice.{old, new};
-ghost use Rattle.streams.specs.Streams.{AtHand, Kept, Refilled, Stepped, Turned};
+ghost use Rattle.streams.specs.Streams.{AtHand, Kept, Refilled, Steps, Turned};
 use advances::Progress;
 use job::advance;
 use job::new_job;
@@ -75,38 +75,40 @@ fn follow(
     output: i32,
     piece: usize,
 ) -> Turn
-    requires { ⌜ AtHand (now buffer) from end × Stepped progress from end × (at ≤ length (now out)) ⌝ }
+    requires { ⌜ Steps (now buffer) (now out) progress from end at ⌝ }
     ensures { λ r. ⌜ Turned (new buffer) r ⌝ }
 {
-    if let Progress::Went(n) = progress {
-        if at <= 32768 {
-            return Turn {
-                done: false,
+    match progress {
+        Progress::Ended => {
+            io::write_all(output, &out[..at]);
+            Turn {
+                done: true,
+                from,
+                end,
+                ended,
+                at: 0,
+            }
+        }
+        Progress::Went(n) => {
+            if at <= 32768 {
+                return Turn {
+                    done: false,
+                    from: from + n,
+                    end,
+                    ended,
+                    at,
+                };
+            }
+            Turn {
+                done: !io::write_all(output, &out[..at]),
                 from: from + n,
                 end,
                 ended,
-                at,
-            };
+                at: 0,
+            }
         }
-    }
-    let written = io::write_all(output, &out[..at]);
-    match progress {
-        Progress::Ended => Turn {
-            done: true,
-            from,
-            end,
-            ended,
-            at: 0,
-        },
-        Progress::Went(n) => Turn {
-            done: !written,
-            from: from + n,
-            end,
-            ended,
-            at: 0,
-        },
         Progress::More => {
-            if !written {
+            if !io::write_all(output, &out[..at]) {
                 return Turn {
                     done: true,
                     from,
@@ -127,23 +129,65 @@ fn follow(
     }
 }
 
+// Zeros for input.
+fn input_room() -> [u8; 32768]
+    ensures { λ r. ⌜ 32768 ≡ length r ⌝ }
+{
+    [0; 32768]
+}
+
+// Zeros for the lines of a step, and those before it.
+fn output_room() -> [u8; 131072]
+    ensures { λ r. ⌜ 131072 ≡ length r ⌝ }
+{
+    [0; 131072]
+}
+
+// Zeros for identifiers.
+fn name_room() -> [u8; 4080]
+    ensures { λ r. ⌜ 4080 ≡ length r ⌝ }
+{
+    [0; 4080]
+}
+
+// Zeros for bases.
+fn base_room() -> [u8; 1024]
+    ensures { λ r. ⌜ 1024 ≡ length r ⌝ }
+{
+    [0; 1024]
+}
+
+// Zeros for targets by rank.
+fn rank_room() -> [usize; 4096]
+    ensures { λ r. ⌜ 4096 ≡ length r ⌝ }
+{
+    [0; 4096]
+}
+
+// Zeros for a column of postings, or for entries.
+fn column() -> [u64; 1024]
+    ensures { λ r. ⌜ 1024 ≡ length r ⌝ }
+{
+    [0; 1024]
+}
+
 // Runs a job. Its input is read in pieces of at most `piece` bytes; what is written is out before more input is waited for.
 pub fn run_stream(input: i32, output: i32, piece: usize) {
-    let mut buffer = [0u8; 32768];
-    let mut out = [0u8; 131072];
-    let mut identifiers = [0u8; 4080];
+    let mut buffer = input_room();
+    let mut out = output_room();
+    let mut identifiers = name_room();
     let mut identifier_ends = [0usize; 16];
-    let mut bases = [0u8; 1024];
+    let mut bases = base_room();
     let mut base_ends = [0usize; 16];
     let mut marks = [0u8; 16];
-    let mut ranked = [0usize; 4096];
-    let mut keys = [0u64; 1024];
-    let mut ranks = [0u64; 1024];
-    let mut positions = [0u64; 1024];
+    let mut ranked = rank_room();
+    let mut keys = column();
+    let mut ranks = column();
+    let mut positions = column();
     let mut placements = [0u64; 16];
     let mut singles = [0u64; 16];
     let mut multi = [0u64; 16];
-    let mut entries = [0u64; 1024];
+    let mut entries = column();
     let mut job = new_job();
     let mut from: usize = 0;
     let mut end: usize = 0;
