@@ -1,7 +1,7 @@
 use native.Mathlib.Omega.{arith}
 use borrow.Author.Needs.{needs}
 use Rattle.job.specs.Jobs.{buffersOf, JobKept}
-use Rattle.streams.proofs.Turning.{Runs, new-kept, has-room, steps}
+use Rattle.streams.proofs.Turning.{Runs, zeros, new-kept, has-room, steps}
 use mathlib.Core.Path.{sym, subst}
 use Rattle.streams.proofs.run_stream.Statement.{statement}
 use Rattle.streams.proofs.run_stream.Tie as tie
@@ -68,7 +68,7 @@ new-job-requires c κs = search needs
 -- src/lib.rt:197:5
 loop-holds : tie.Need-loop-holds Inv-loop μ-loop
 loop-holds c = record {
-    kept = subst (λ x. JobKept x _) (sym (c .new-job .ensures)) (new-kept _ _ _ _ _ _ (sym (c .before .before .before .before .before .before .before .name-room .ensures)) (sym (c .before .before .before .before .before .before .base-room .ensures)) (sym (c .before .before .before .before .before .rank-room .ensures)) (sym (c .before .before .before .before .column .ensures)) (sym (c .before .before .before .column2 .ensures)) (sym (c .before .before .column3 .ensures)));
+    kept = subst (λ x. JobKept x (buffersOf (c .before .before .before .before .before .before .before .name-room .result) zeros (c .before .before .before .before .before .before .base-room .result) zeros zeros (c .before .before .before .before .before .rank-room .result) (c .before .before .before .before .column .result) (c .before .before .before .column2 .result) (c .before .before .column3 .result) zeros zeros zeros)) (sym (c .new-job .ensures)) (new-kept _ _ _ _ _ _ (sym (c .before .before .before .before .before .before .before .name-room .ensures)) (sym (c .before .before .before .before .before .before .base-room .ensures)) (sym (c .before .before .before .before .before .rank-room .ensures)) (sym (c .before .before .before .before .column .ensures)) (sym (c .before .before .before .column2 .ensures)) (sym (c .before .before .column3 .ensures)));
     places = sym (c .before .column4 .ensures);
     hand = record { ordered = omega arith; within = omega arith };
     input = sym (c .before .before .before .before .before .before .before .before .before .input-room .ensures);
@@ -153,11 +153,11 @@ slice-aggregate-follow c = sym (c .before .before .before .before .before .befor
 
 -- src/lib.rt:223:13
 slice-aggregate-follow-2 : tie.Need-slice-aggregate-follow-2 Inv-loop μ-loop
-slice-aggregate-follow-2 c = ?
+slice-aggregate-follow-2 c = sym (c .before .before .before .before .before .before .before .before .before .before .before .before .before .before .before .before .before .out2 .given)
 
 -- src/lib.rt:221:13
 follow-requires : tie.Need-follow-requires Inv-loop μ-loop
-follow-requires c κs = steps _ _ _ _ _ _ _ _ (c .before .before .before .before .before .before .before .before .before .before .before .before .before .before .before .before .before .before .before .before .before .before .before .before .before .before .before .before .before .before .before .before .before .before .before .before .loop .inv) _ _ _ _ ? (c .before .before .before .before .before .before .before .before .before .before .before .before .before .before .before .before .before .before .advance .ensures)
+follow-requires c κs = steps _ _ _ _ _ _ _ _ (c .before .before .before .before .before .before .before .before .before .before .before .before .before .before .before .before .before .before .before .before .before .before .before .before .before .before .before .before .before .before .before .before .before .before .before .before .loop .inv) _ _ _ _ (c .before .before .before .before .before .before .before .before .before .before .before .before .before .before .before .before .before .out2 .given) (c .before .before .before .before .before .before .before .before .before .before .before .before .before .before .before .before .before .before .advance .ensures)
 
 -- src/lib.rt:234:13
 returns : tie.Need-returns Inv-loop μ-loop
@@ -165,15 +165,15 @@ returns c = search needs
 
 -- src/lib.rt:241:9
 sub-turns : tie.Need-sub-turns Inv-loop μ-loop
-sub-turns c = omega arith
+sub-turns c = omega (arith, c .before .before .before .before .before .before .before .before .before .before .before .before .before .before .before .before .before .before .before .before .before .before .before .before .before .before .before .before .before .before .before .before .before .before .before .before .before .before .loop-test .taken)
 
 -- src/lib.rt:197:5
 loop-less : tie.Need-loop-less Inv-loop μ-loop
-loop-less c = omega arith
+loop-less c = omega (arith, c .before .before .before .before .before .before .before .before .before .before .before .before .before .before .before .before .before .before .before .before .before .before .before .before .before .before .before .before .before .before .before .before .before .before .before .before .before .before .loop-test .taken)
 
 -- src/lib.rt:197:5
 loop-again : tie.Need-loop-again Inv-loop μ-loop
-loop-again c = record { kept = c .before .before .before .before .before .before .before .before .before .before .before .before .before .before .before .before .before .before .before .before .before .advance .ensures .kept; places = ?; hand = c .before .before .follow .ensures .hand; input = ?; output = ?; room = c .before .before .follow .ensures .room }
+loop-again c = record { kept = c .before .before .before .before .before .before .before .before .before .before .before .before .before .before .before .before .before .before .before .before .before .advance .ensures .kept; places = c .before .before .before .before .before .before .before .entries2 .given; hand = c .before .before .follow .ensures .hand; input = c .before .buffer3 .given; output = c .before .before .before .before .before .before .before .before .before .before .before .before .before .before .before .before .before .before .before .before .out2 .given; room = c .before .before .follow .ensures .room }
 
 -- src/lib.rt:175:1
 returns-2 : tie.Need-returns-2 Inv-loop μ-loop
