@@ -3,9 +3,8 @@
 
     python3 cases.py DIR
 
-writes DIR/stdin (the number of streams, then for each the length of its name in one byte, its name, and
-the stream behind its length; the other numbers are 4 bytes little-endian) and DIR/stdout (for each
-stream the line `# NAME`, then its output).
+writes DIR/stdin (for each case its length in two bytes, the low one first, then the length of its name in
+one byte, its name and a stream) and DIR/stdout (for each stream the line `# NAME`, then its output).
 
 The model is written from paper 01 and its settled readings, not from the code. Words in quotation
 marks are 01's; "reading n" is one of the settled readings.
@@ -1258,8 +1257,8 @@ def cases_sheet():
          + fragment(0, read(b"ACGT", b"ACGT")) + fragment(1, read(b"AC", b"\x7e\x21")) + END,
          totals(4, 0, 2), RGG * 2 + sheet(1))
     # Input length and number of fragments have no bound (reading 11), nor has the output.
-    case("input_over_65536", opening() + T1 + fragments([b"N" * 4096] * 16 + [b"ACG"]) + END,
-         totals(2, 0, 1), "R" * 16 + RGG + sheet(1), ["S S 1 16", "S S 5 1"])
+    case("input_of_61000", opening() + T1 + fragments([b"N" * 4096] * 15 + [b"ACG"]) + END,
+         totals(2, 0, 1), "R" * 15 + RGG + sheet(1), ["S S 1 15", "S S 5 1"])
     case("output_over_65536", opening(limit=256) + target(b"t", b"AT" * 128)
          + fragments([b"A", b"T"] * 10) + END, totals(20 * 256, 0, 20),
          ("R" + "G" * 256) * 20 + sheet(1), ["S S 5 20"])
@@ -1452,12 +1451,11 @@ def main():
         group()
     outputs = [catch(one.stream) for one in CASES]
     check_all(outputs)
-    stdin = struct.pack("<I", len(CASES)) + b"".join(
-        bytes([len(one.name)]) + one.name.encode()
-        + struct.pack("<I", len(one.stream)) + one.stream for one in CASES)
+    bodies = [bytes([len(one.name)]) + one.name.encode() + one.stream for one in CASES]
+    stdin = b"".join(struct.pack("<H", len(body)) + body for body in bodies)
     stdout = b"".join(b"# " + one.name.encode() + b"\n" + output
                       for one, output in zip(CASES, outputs))
-    assert len(stdin) < 700_000, len(stdin)
+    assert len(stdin) <= 393_216, len(stdin)
     os.makedirs(sys.argv[1], exist_ok=True)
     for name, data in (("stdin", stdin), ("stdout", stdout)):
         with open(os.path.join(sys.argv[1], name), "wb") as file:

@@ -1,9 +1,12 @@
 -- The bytes of a stream that are at hand in a buffer (REFERENCE.md, "Stream").
 use mathlib.Core.Path.{_≡_}
 use mathlib.Core.List.{List}
-use Prim.Native.Nat.{ℕ, _-_, _≤_}
+use Prim.Native.Nat.{ℕ, _+_, _-_, _≤_}
 use lib.ListN.{length, take}
 use Rattle.lists.specs.Cut.{window}
+use Rattle.advances.specs.declared.Progress.{Progress}
+use Rattle.advances.specs.declared.Progress.the-variants as progress
+use Rattle.streams.specs.declared.Turn.{Turn}
 
 -- they stand between two places
 pub record AtHand (buffer : List ℕ) (from end : ℕ) : Type 0 where
@@ -19,3 +22,24 @@ pub record Refilled (buffer : List ℕ) (from end : ℕ) (buffer′ : List ℕ) 
   pub kept : Kept buffer from buffer′ (end - from)
   pub more : end - from ≤ r
   pub fits : r ≤ length buffer
+
+-- a step went no further than what is at hand
+abbrev pub Stepped : Progress → ℕ → ℕ → Type 0
+Stepped (progress.Went n) from end = from + n ≤ end
+Stepped progress.Ended from end = from ≤ end
+Stepped progress.More from end = from ≤ end
+
+-- a step, with the bytes that were at hand and the output up to its end
+pub record Steps (buffer out : List ℕ) (p : Progress) (from end at : ℕ) : Type 0 where
+  pub hand : AtHand buffer from end
+  pub went : Stepped p from end
+  pub written : at ≤ length out
+
+-- the most bytes of output that are kept back
+abbrev pub keptBack : ℕ
+keptBack = 32768
+
+-- behind a step: the next one has room
+pub record Turned (buffer : List ℕ) (t : Turn) : Type 0 where
+  pub hand : AtHand buffer (t .from) (t .end)
+  pub room : t .at ≤ keptBack
