@@ -2,7 +2,7 @@
 use mathlib.Core.Path.{_≡_}
 use mathlib.Core.List.{List}
 use Prim.Native.Nat.{ℕ, _+_, _-_, _≤_}
-use lib.ListN.{length, take}
+use lib.ListN.{length, take, drop}
 use Rattle.lists.specs.Cut.{window}
 use Rattle.advances.specs.declared.Progress.{Progress}
 use Rattle.advances.specs.declared.Progress.the-variants as progress
@@ -39,7 +39,22 @@ pub record Steps (buffer out : List ℕ) (p : Progress) (from end at : ℕ) : Ty
 abbrev pub keptBack : ℕ
 keptBack = 32768
 
--- behind a step: the next one has room
-pub record Turned (buffer : List ℕ) (t : Turn) : Type 0 where
-  pub hand : AtHand buffer (t .from) (t .end)
+-- the bytes at hand
+abbrev pub handed : List ℕ → ℕ → ℕ → List ℕ
+handed buffer from end = window buffer from (end - from)
+
+-- what a step leaves of them
+abbrev pub leftBy : Progress → List ℕ → List ℕ
+leftBy (progress.Went n) bytes = drop n bytes
+leftBy progress.Ended bytes = bytes
+leftBy progress.More bytes = bytes
+
+-- bytes stand in front of others
+abbrev pub InFront : List ℕ → List ℕ → Type 0
+InFront bytes others = take (length bytes) others ≡ bytes
+
+-- behind a step: what it left is in front of what is at hand, and the next one has room
+pub record Turned (buffer : List ℕ) (p : Progress) (from end : ℕ) (buffer′ : List ℕ) (t : Turn) : Type 0 where
+  pub left : InFront (leftBy p (handed buffer from end)) (handed buffer′ (t .from) (t .end))
+  pub hand : AtHand buffer′ (t .from) (t .end)
   pub room : t .at ≤ keptBack

@@ -6,7 +6,7 @@ ghost use Rattle.promises.specs.Slice.{old, new};
 ghost use Rattle.streams.specs.Streams.{AtHand, Kept, Refilled, Steps, Turned};
 use advances::Progress;
 use job::advance;
-use job::new_job;
+use jobs::new_job;
 
 // How many bytes are at hand, and whether the input has ended or could not be read.
 struct Filled {
@@ -76,7 +76,7 @@ fn follow(
     piece: usize,
 ) -> Turn
     requires { ⌜ Steps (now buffer) (now out) progress from end at ⌝ }
-    ensures { λ r. ⌜ Turned (new buffer) r ⌝ }
+    ensures { λ r. ⌜ Turned (old buffer) progress from end (new buffer) r ⌝ }
 {
     match progress {
         Progress::Ended => {
