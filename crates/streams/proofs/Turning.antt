@@ -1,4 +1,5 @@
 -- Steps of a job, and what is at hand between them.
+-- Assumes nothing.
 use mathlib.Core.Path.{_≡_, refl, subst}
 use mathlib.Core.Bool.{Bool, true, false}
 use mathlib.Core.List.{List}
@@ -51,7 +52,15 @@ pub new-kept : (is bs ranked ks rs os : List ℕ) → length is ≡ maxStreamNam
 new-kept is bs ranked ks rs os i b r k s o =
     record {
       supply = record { targets = omega arith; names = omega arith; bases = omega arith; identifiers = i; identifierEnds = refl; sequences = b; baseEnds = refl; marks = refl };
-      ranked = r; keys = k; ranks = s; positions = o; placements = refl; singles = refl; multi = refl; at-stage = (refl, refl) }
+      ranked = r;
+      keys = k;
+      ranks = s;
+      positions = o;
+      placements = refl;
+      singles = refl;
+      multi = refl;
+      at-stage = (refl, refl);
+    }
 
 -- ---- from one to the next
 
@@ -68,4 +77,5 @@ module _ (j : Job) (b : Buffers) (entries buffer out : List ℕ) (from end at : 
         hand = runs .hand;
         went = told-within ended (stageOf j b) (stageOf (r .job) b′) (window buffer from (end - from)) (a .advances .text) (r .advance .progress) from end (runs .hand .ordered)
             (length-take-le (end - from) (drop from buffer) (simp length-drop (omega (arith, runs .hand .within)))) (a .advances .told);
-        written = omega (arith, a .advances .adds .room, runs .room) }
+        written = omega (arith, a .advances .adds .room, runs .room);
+      }
