@@ -1,7 +1,8 @@
 -- Bytes moved to the front of their buffer, one after the other.
+-- Assumes nothing.
 use mathlib.Core.Path.{_≡_, refl, sym, _∙_, ap}
-use mathlib.Core.List.{List, [], _∷_, _++_}
-use Prim.Native.Nat.{ℕ, suc, _+_, _-_, _≤_, _<_}
+use mathlib.Core.List.{List}
+use Prim.Native.Nat.{ℕ, _+_, _≤_, _<_}
 use native.Mathlib.Numerals.{add-one}
 use native.Mathlib.Omega.{arith}
 use borrow.Rule.Slice.PartMut.{putMid, take-put}
@@ -27,8 +28,9 @@ unmoved b₀ from b i h =
     let e : from + i ≡ i + from = omega arith in
     rw e (sym (getD-drop i b from 0) ∙ ap (λ (l : List ℕ). getD l from 0) h ∙ getD-drop i b₀ from 0)
 
-pub moved-one : (b₀ : List ℕ) (from n : ℕ) (b : List ℕ) (i : ℕ) → Moved b₀ from n b i → i < n → Moved b₀ from n (set b i (getD b (from + i) 0)) (i + 1)
-moved-one b₀ from n b i m h = record { fits = m .fits; same = length-set b i _ ∙ m .same; within = omega arith; front = front; behind = behind }
+-- one more, from the place k
+pub moved-one : (b₀ : List ℕ) (from n : ℕ) (b : List ℕ) (i k : ℕ) → Moved b₀ from n b i → i < n → k ≡ from + i → Moved b₀ from n (set b i (getD b k 0)) (i + 1)
+moved-one b₀ from n b i k m h e = rw e (record { fits = m .fits; same = length-set b i _ ∙ m .same; within = omega arith; front = front; behind = behind })
   where
     front : take (i + 1) (set b i (getD b (from + i) 0)) ≡ window b₀ from (i + 1)
     front =

@@ -45,7 +45,7 @@ module _ (buffer : List ℕ) (p : Progress) (from end at : ℕ) (ended done : Bo
       let w = went-within p n from end e s in
       let size : end - from - n ≡ end - (from + n) = omega (arith, w) in
       let same : drop n (handed buffer from end) ≡ handed buffer (from + n) end =
-          drop-take n (end - from) (drop from buffer) ∙ ap (take (end - from - n)) (drop-drop n from buffer) ∙ ap (λ m. take m (drop (from + n) buffer)) size in
+      drop-take n (end - from) (drop from buffer) ∙ ap (take (end - from - n)) (drop-drop n from buffer) ∙ ap (λ m. take m (drop (from + n) buffer)) size in
       record {
         left = subst (λ x. InFront (leftBy x (handed buffer from end)) (handed buffer (from + n) end)) (sym e) (subst (λ l. InFront l (handed buffer (from + n) end)) (sym same) (all-in-front (handed buffer (from + n) end)));
         hand = record { ordered = w; within = h .within };
@@ -63,7 +63,7 @@ module _ (buffer : List ℕ) (p : Progress) (from end at : ℕ) (ended done : Bo
     turned-more buffer′ end′ long r =
         let size = length-take-le (end - from) (drop from buffer) (simp length-drop (omega (arith, h .within))) in
         let front : InFront (handed buffer from end) (handed buffer′ 0 end′) =
-            ap (λ n. take n (take (end′ - 0) buffer′)) size ∙ take-take (end - from) (end′ - 0) buffer′ (omega (arith, r .more)) ∙ r .kept in
+        ap (λ n. take n (take (end′ - 0) buffer′)) size ∙ take-take (end - from) (end′ - 0) buffer′ (omega (arith, r .more)) ∙ r .kept in
         record { left = subst (λ l. InFront l (handed buffer′ 0 end′)) (sym e) front; hand = record { ordered = omega arith; within = omega (arith, long, r .fits) }; room = omega arith }
 
 -- ---- between steps
@@ -86,7 +86,15 @@ pub new-kept : (is bs ranked ks rs os : List ℕ) → length is ≡ maxStreamNam
 new-kept is bs ranked ks rs os i b r k s o =
     record {
       supply = record { targets = omega arith; names = omega arith; bases = omega arith; identifiers = i; identifierEnds = refl; sequences = b; baseEnds = refl; marks = refl };
-      ranked = r; keys = k; ranks = s; positions = o; placements = refl; singles = refl; multi = refl; at-stage = (refl, refl) }
+      ranked = r;
+      keys = k;
+      ranks = s;
+      positions = o;
+      placements = refl;
+      singles = refl;
+      multi = refl;
+      at-stage = (refl, refl);
+    }
 
 -- ---- from one to the next
 
@@ -103,4 +111,5 @@ module _ (j : Job) (b : Buffers) (entries buffer out : List ℕ) (from end at : 
         hand = runs .hand;
         went = told-within ended (stageOf j b) (stageOf (r .job) b′) (window buffer from (end - from)) (a .advances .text) (r .advance .progress) from end (runs .hand .ordered)
             (length-take-le (end - from) (drop from buffer) (simp length-drop (omega (arith, runs .hand .within)))) (a .advances .told);
-        written = omega (arith, a .advances .adds .room, runs .room) }
+        written = omega (arith, a .advances .adds .room, runs .room);
+      }

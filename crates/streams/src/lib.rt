@@ -90,10 +90,11 @@ fn follow(
             }
         }
         Progress::Went(n) => {
+            let next = from + n;
             if at <= 32768 {
                 return Turn {
                     done: false,
-                    from: from + n,
+                    from: next,
                     end,
                     ended,
                     at,
@@ -101,7 +102,7 @@ fn follow(
             }
             Turn {
                 done: !io::write_all(output, &out[..at]),
-                from: from + n,
+                from: next,
                 end,
                 ended,
                 at: 0,

@@ -1,10 +1,10 @@
--- `streams::follow` meets its contract: on behind a command, all done, or more read.
+-- `streams::follow` meets its contract, answer by answer: no step goes further than what is at hand, and what it left is there behind it.
 -- Assumes nothing.
-use borrow.Author.Needs.{needs}
-use native.Mathlib.Omega.{arith}
-use Prim.Native.Nat.{_+_, _≤_}
-use lib.Seq.{length-take-le}
 use mathlib.Core.Path.{sym, ap}
+use Prim.Native.Nat.{_+_, _≤_}
+use native.Mathlib.Omega.{arith}
+use borrow.Author.Needs.{needs}
+use lib.Seq.{length-take-le}
 use Rattle.streams.specs.Streams.{handed, leftBy}
 use Rattle.streams.proofs.Turning.{went-within, turned-on, turned-off, turned-more}
 use Rattle.streams.proofs.follow.Statement.{statement}
@@ -22,8 +22,12 @@ write-all-requires c κs = search needs
 enum-known-progress : tie.Need-enum-known-progress
 enum-known-progress c = search needs
 
-add-t18 : tie.Need-add-t18
-add-t18 c = let a = c .before .before .before .before .before .before .args in let n = c .before .before .progress .given .0 .0 in let h : a .from + n ≤ a .end = went-within (a .progress) n (a .from) (a .end) (c .before .before .progress .given .1) (c .before .before .before .before .before .before .pre .went) in omega arith
+add-next : tie.Need-add-next
+add-next c =
+    let a = c .before .before .before .before .before .args in
+    let n = c .before .progress .given .0 .0 in
+    let h : a .from + n ≤ a .end = went-within (a .progress) n (a .from) (a .end) (c .before .progress .given .1) (c .before .before .before .before .before .pre .went) in
+    omega arith
 
 returns : tie.Need-returns
 returns c =
@@ -36,9 +40,6 @@ slice-aggregate-write-all-2 c = sym (length-take-le _ _ (c .before .before .befo
 
 write-all-requires-2 : tie.Need-write-all-requires-2
 write-all-requires-2 c κs = search needs
-
-add-t22 : tie.Need-add-t22
-add-t22 c = let a = c .before .before .before .before .before .before .before .before .args in let n = c .before .before .before .before .progress .given .0 .0 in let h : a .from + n ≤ a .end = went-within (a .progress) n (a .from) (a .end) (c .before .before .before .before .progress .given .1) (c .before .before .before .before .before .before .before .before .pre .went) in omega arith
 
 enum-told-2 : tie.Need-enum-told-2
 enum-told-2 c = search needs
@@ -87,11 +88,10 @@ follow-spec =
     slice-aggregate-write-all
     write-all-requires
     enum-known-progress
-    add-t18
+    add-next
     returns
     slice-aggregate-write-all-2
     write-all-requires-2
-    add-t22
     enum-told-2
     slice-aggregate-write-all-3
     write-all-requires-3

@@ -1,10 +1,10 @@
--- `streams::run_stream` meets its contract: the premises of every call hold, turn by turn.
+-- `streams::run_stream` is safe and ends. The invariant: the job is kept, and a step has room; the measure counts turns.
 -- Assumes nothing.
+use mathlib.Core.Path.{sym, subst}
 use native.Mathlib.Omega.{arith}
 use borrow.Author.Needs.{needs}
 use Rattle.jobs.specs.Jobs.{buffersOf, JobKept}
 use Rattle.streams.proofs.Turning.{Runs, zeros, new-kept, has-room, steps}
-use mathlib.Core.Path.{sym, subst}
 use Rattle.streams.proofs.run_stream.Statement.{statement}
 use Rattle.streams.proofs.run_stream.Tie as tie
 
@@ -48,12 +48,13 @@ new-job-requires c κs = search needs
 
 loop-holds : tie.Need-loop-holds Inv-loop μ-loop
 loop-holds c = record {
-    kept = subst (λ x. JobKept x (buffersOf (c .before .before .before .before .before .before .before .name-room .result) zeros (c .before .before .before .before .before .before .base-room .result) zeros zeros (c .before .before .before .before .before .rank-room .result) (c .before .before .before .before .column .result) (c .before .before .before .column2 .result) (c .before .before .column3 .result) zeros zeros zeros)) (sym (c .new-job .ensures)) (new-kept _ _ _ _ _ _ (sym (c .before .before .before .before .before .before .before .name-room .ensures)) (sym (c .before .before .before .before .before .before .base-room .ensures)) (sym (c .before .before .before .before .before .rank-room .ensures)) (sym (c .before .before .before .before .column .ensures)) (sym (c .before .before .before .column2 .ensures)) (sym (c .before .before .column3 .ensures)));
-    places = sym (c .before .column4 .ensures);
-    hand = record { ordered = omega arith; within = omega arith };
-    input = sym (c .before .before .before .before .before .before .before .before .before .input-room .ensures);
-    output = sym (c .before .before .before .before .before .before .before .before .output-room .ensures);
-    room = omega arith }
+  kept = subst (λ x. JobKept x (buffersOf (c .before .before .before .before .before .before .before .name-room .result) zeros (c .before .before .before .before .before .before .base-room .result) zeros zeros (c .before .before .before .before .before .rank-room .result) (c .before .before .before .before .column .result) (c .before .before .before .column2 .result) (c .before .before .column3 .result) zeros zeros zeros)) (sym (c .new-job .ensures)) (new-kept _ _ _ _ _ _ (sym (c .before .before .before .before .before .before .before .name-room .ensures)) (sym (c .before .before .before .before .before .before .base-room .ensures)) (sym (c .before .before .before .before .before .rank-room .ensures)) (sym (c .before .before .before .before .column .ensures)) (sym (c .before .before .before .column2 .ensures)) (sym (c .before .before .column3 .ensures)));
+  places = sym (c .before .column4 .ensures);
+  hand = record { ordered = omega arith; within = omega arith };
+  input = sym (c .before .before .before .before .before .before .before .before .before .input-room .ensures);
+  output = sym (c .before .before .before .before .before .before .before .before .output-room .ensures);
+  room = omega arith;
+}
 
 slice-aggregate-advance : tie.Need-slice-aggregate-advance Inv-loop μ-loop
 slice-aggregate-advance c = sym (c .before .before .loop .inv .output)
@@ -128,7 +129,15 @@ loop-less : tie.Need-loop-less Inv-loop μ-loop
 loop-less c = omega (arith, c .before .before .before .before .before .before .before .before .before .before .before .before .before .before .before .before .before .before .before .before .before .before .before .before .before .before .before .before .before .before .before .before .before .before .before .before .before .before .loop-test .taken)
 
 loop-again : tie.Need-loop-again Inv-loop μ-loop
-loop-again c = record { kept = c .before .before .before .before .before .before .before .before .before .before .before .before .before .before .before .before .before .before .before .before .before .advance .ensures .kept; places = c .before .before .before .before .before .before .before .entries2 .given; hand = c .before .before .follow .ensures .hand; input = c .before .buffer3 .given; output = c .before .before .before .before .before .before .before .before .before .before .before .before .before .before .before .before .before .before .before .before .out2 .given; room = c .before .before .follow .ensures .room }
+loop-again c = let f = c .before .before .follow .ensures in
+    record {
+      kept = c .before .before .before .before .before .before .before .before .before .before .before .before .before .before .before .before .before .before .before .before .before .advance .ensures .kept;
+      places = c .before .before .before .before .before .before .before .entries2 .given;
+      hand = record { ordered = omega (arith, f .hand .ordered); within = omega (arith, f .hand .within) };
+      input = c .before .buffer3 .given;
+      output = c .before .before .before .before .before .before .before .before .before .before .before .before .before .before .before .before .before .before .before .before .out2 .given;
+      room = omega (arith, f .room);
+    }
 
 returns-2 : tie.Need-returns-2 Inv-loop μ-loop
 returns-2 c = search needs
