@@ -1272,7 +1272,8 @@ def cases_sheet():
              piece=piece)
     # No fragment has more bytes; two of them do not fit into 32,768.
     longest = [b"A" * 4095 + b"C", b"I" * 4096]
-    case("longest_fragments", opening(PAIRED) + T1 + pair(0, longest[0], longest[0], longest[1], longest[1])
+    case("longest_fragments", opening(PAIRED) + T1
+         + pair(0, longest[0], longest[0], longest[1], longest[1])
          + pair(1, longest[0], b"AC", longest[1], None) + END,
          totals(2, 0, 1), "RRRRGG" + sheet(1, PAIRED), ["S R1 3 2", "S R2 3 1", "S R2 5 1"], piece=0)
     # No step writes more: 256 groups on a name of 255 bytes, behind lines that are kept back.
