@@ -3,8 +3,9 @@
 
     python3 cases.py DIR
 
-writes DIR/stdin (for each case its length in two bytes, the low one first, then the length of its name in
-one byte, its name and a stream) and DIR/stdout (for each stream the line `# NAME`, then its output).
+writes DIR/stdin (for each case its length in two bytes, the low one first, then in one byte the length of
+the pieces that its stream is read in, 0 for 32,768, then the length of its name in one byte, its name and
+the stream) and DIR/stdout (for each stream the line `# NAME`, then its output).
 
 The model is written from paper 01 and its settled readings, not from the code. Words in quotation
 marks are 01's; "reading n" is one of the settled readings.
@@ -442,13 +443,16 @@ L40 = b"GATTACAGGCTCCATGAACTTGCGTAACCGGTATCTGACA"
 # ---------------------------------------------------------------------------------------------
 
 # last: the last line; kinds: the first letters of all lines; lines: some lines, in order;
-# whole: the output byte for byte. None means not known beforehand.
-Case = namedtuple("Case", "name stream last kinds lines whole")
+# whole: the output byte for byte. None means not known beforehand. piece: the stream is read in pieces
+# of so many bytes, 32,768 for 0.
+Case = namedtuple("Case", "name stream last kinds lines whole piece")
 CASES = []
 
 
-def case(name, stream, last=None, kinds=None, lines=(), whole=None):
-    CASES.append(Case(name, stream, last, kinds, list(lines), whole))
+def case(name, stream, last=None, kinds=None, lines=(), whole=None, piece=None):
+    if piece is None:
+        piece = len(CASES) % 32
+    CASES.append(Case(name, stream, last, kinds, list(lines), whole, piece))
 
 
 def refused(number):
@@ -669,9 +673,14 @@ def cases_short_streams():
 
 
 def cases_left_out():
-    """01's example without one of its bytes, at every place."""
-    for place in range(len(EXAMPLE)):
-        case("left_out_%02d" % place, EXAMPLE[:place] + EXAMPLE[place + 1:])
+    """Two sound streams without one of their bytes, at every place, and with one byte more."""
+    rich = (opening(PAIRED, floor=5) + target(b"t", b"ACGTA") + closed(b"b", b"AC")
+            + pair(0, b"AC", b"TA", b"IJ", b"KL") + END)
+    for word, sound in (("example", EXAMPLE), ("pair", rich)):
+        for place in range(len(sound)):
+            case("left_out_%s_%02d" % (word, place), sound[:place] + sound[place + 1:])
+        for place in range(len(sound) + 1):
+            case("put_in_%s_%02d" % (word, place), sound[:place] + b"\1" + sound[place:])
 
 
 # --- The opening -----------------------------------------------------------------------------
@@ -1257,8 +1266,29 @@ def cases_sheet():
          + fragment(0, read(b"ACGT", b"ACGT")) + fragment(1, read(b"AC", b"\x7e\x21")) + END,
          totals(4, 0, 2), RGG * 2 + sheet(1))
     # Input length and number of fragments have no bound (reading 11), nor has the output.
-    case("input_of_61000", opening() + T1 + fragments([b"N" * 4096] * 15 + [b"ACG"]) + END,
-         totals(2, 0, 1), "R" * 15 + RGG + sheet(1), ["S S 1 15", "S S 5 1"])
+    for name, count, piece in (("in_whole_pieces", 15, 0), ("in_pieces_of_31", 9, 31)):
+        case("long_input_" + name, opening() + T1 + fragments([b"N" * 4096] * count + [b"ACG"]) + END,
+             totals(2, 0, 1), "R" * count + RGG + sheet(1), ["S S 1 %d" % count, "S S 5 1"],
+             piece=piece)
+    # No fragment has more bytes; two of them do not fit into 32,768.
+    longest = [b"A" * 4095 + b"C", b"I" * 4096]
+    case("longest_fragments", opening(PAIRED) + T1
+         + pair(0, longest[0], longest[0], longest[1], longest[1])
+         + pair(1, longest[0], b"AC", longest[1], None) + END,
+         totals(2, 0, 1), "RRRRGG" + sheet(1, PAIRED), ["S R1 3 2", "S R2 3 1", "S R2 5 1"], piece=0)
+    # No step writes more: 256 groups on a name of 255 bytes, behind lines that are kept back.
+    name = b"i" * 255
+    case("longest_lines", opening(limit=256) + target(name, b"A" * 256)
+         + fragments([b"A" * 137, b"A"]) + END, totals(120 + 256, 0, 2),
+         "R" + "G" * 120 + "R" + "G" * 256 + sheet(1), ["R 0 S 5 120", "R 1 S 5 256"], piece=0)
+    case("longest_lines_of_pair", opening(PAIRED, limit=128) + target(name, b"A" * 128)
+         + pair(2**64 - 1, b"A", b"T") + END, totals(256, 0, 2),
+         ("R" + "G" * 128) * 2 + sheet(1, PAIRED), ["R %d R1 5 128" % (2**64 - 1)])
+    case("all_bounds", opening(PAIRED, floor=93, limit=10_000_000)
+         + b"".join(target(b"%02d" % n + b"i" * 253, b"ACGT" * 16) for n in range(16))
+         + pair(2**64 - 1, (b"ACGT" * 16)[:63], b"A" * 4096, b"~" * 63, b"~" * 4096) + END,
+         totals(32, 0, 16), "R" + "G" * 32 + "R" + sheet(16, PAIRED),
+         ["R %d R1 5 32" % (2**64 - 1), "R %d R2 3 0" % (2**64 - 1)])
     case("output_over_65536", opening(limit=256) + target(b"t", b"AT" * 128)
          + fragments([b"A", b"T"] * 10) + END, totals(20 * 256, 0, 20),
          ("R" + "G" * 256) * 20 + sheet(1), ["S S 5 20"])
@@ -1451,7 +1481,7 @@ def main():
         group()
     outputs = [catch(one.stream) for one in CASES]
     check_all(outputs)
-    bodies = [bytes([len(one.name)]) + one.name.encode() + one.stream for one in CASES]
+    bodies = [bytes([one.piece, len(one.name)]) + one.name.encode() + one.stream for one in CASES]
     stdin = b"".join(struct.pack("<H", len(body)) + body for body in bodies)
     stdout = b"".join(b"# " + one.name.encode() + b"\n" + output
                       for one, output in zip(CASES, outputs))

@@ -1,6 +1,6 @@
 // Runs the streams of standard input, each through the loop of `catch`. cases.py writes them, and what is expected of them.
-// A case: its length in two bytes, the low one first; then the length of its name in one byte, its name, and a stream.
-// The streams are read from a file without a name, in pieces of 1 to 31 bytes, and of 32,768.
+// A case: its length in two bytes, the low one first; in one byte each the length of the pieces that its stream is read in,
+// 0 for 32,768, and the length of its name; its name; the stream. It is read from a file that has no name.
 ghost use Prim.Native.Nat.{_<_};
 ghost use lib.ListN.{length};
 use audit_numbers::part_end;
@@ -21,46 +21,40 @@ fn run_file(file: i32, bytes: &[u8], piece: usize) {
     run_stream(file, STDOUT_FILENO, piece);
 }
 
-fn run_case(file: i32, s: &[u8], piece: usize) {
-    if s.len() == 0 {
+fn piece_of(byte: u8) -> usize {
+    if byte == 0 {
+        return 32768;
+    }
+    wide(byte)
+}
+
+fn run_case(file: i32, s: &[u8]) {
+    if s.len() < 2 {
         return put(b"short\n");
     }
-    let name = part_end(s, 1, wide(s[0]));
+    let name = part_end(s, 2, wide(s[1]));
     put(b"# ");
-    put(&s[1..name]);
+    put(&s[2..name]);
     put(b"\n");
-    run_file(file, &s[name..], piece);
+    run_file(file, &s[name..], piece_of(s[0]));
 }
 
 // The case at a place.
-fn case_at(file: i32, s: &[u8], at: usize, piece: usize)
+fn case_at(file: i32, s: &[u8], at: usize)
     requires { ⌜ at < length (now s) ⌝ }
 {
     if s.len() - at < 2 {
         return put(b"short\n");
     }
     let end = part_end(s, at + 2, number(s, at));
-    run_case(file, &s[at + 2..end], piece);
-}
-
-// The length of the pieces of the next stream.
-fn next_piece(piece: usize) -> usize {
-    if piece < 31 {
-        return piece + 1;
-    }
-    if piece == 31 {
-        return 32768;
-    }
-    1
+    run_case(file, &s[at + 2..end]);
 }
 
 fn run_cases(file: i32, s: &[u8]) {
     let mut at = 0;
-    let mut piece: usize = 1;
     while at < s.len() {
-        case_at(file, s, at, piece);
+        case_at(file, s, at);
         at = next_at(s, at);
-        piece = next_piece(piece);
     }
 }
 

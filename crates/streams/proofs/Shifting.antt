@@ -19,8 +19,8 @@ pub record Moved (b₀ : List ℕ) (from n : ℕ) (b : List ℕ) (i : ℕ) : Typ
   pub front : take i b ≡ window b₀ from i
   pub behind : drop i b ≡ drop i b₀
 
-pub moved-none : (b₀ : List ℕ) (from n : ℕ) → from + n ≤ length b₀ → Moved b₀ from n b₀ 0
-moved-none b₀ from n h = record { fits = h; same = refl; within = omega arith; front = refl; behind = refl }
+pub moved-none : (b₀ : List ℕ) (from n i : ℕ) → i ≡ 0 → from + n ≤ length b₀ → Moved b₀ from n b₀ i
+moved-none b₀ from n i e h = rw e (record { fits = h; same = refl; within = omega arith; front = refl; behind = refl })
 
 -- the byte that is read stands where it stood
 unmoved : (b₀ : List ℕ) (from : ℕ) (b : List ℕ) (i : ℕ) → drop i b ≡ drop i b₀ → getD b (from + i) 0 ≡ getD b₀ (from + i) 0

@@ -7,10 +7,10 @@ use Rattle.catch_cases.proofs.run_cases.Statement.{statement}
 use Rattle.catch_cases.proofs.run_cases.Tie as tie
 
 abbrev Inv-loop : tie.InvT-loop
-Inv-loop file s at₀ piece₀ at piece = at ≤ length s
+Inv-loop file s at₀ at = at ≤ length s
 
 abbrev μ-loop : tie.MeasureT-loop
-μ-loop file s at₀ piece₀ at piece = length s - at
+μ-loop file s at₀ at = length s - at
 
 loop-holds : tie.Need-loop-holds Inv-loop μ-loop
 loop-holds c = search needs
@@ -20,9 +20,6 @@ case-at-requires c κs = search needs
 
 next-at-requires : tie.Need-next-at-requires Inv-loop μ-loop
 next-at-requires c κs = search needs
-
-next-piece-requires : tie.Need-next-piece-requires Inv-loop μ-loop
-next-piece-requires c κs = search needs
 
 loop-less : tie.Need-loop-less Inv-loop μ-loop
 loop-less c = search needs
@@ -42,7 +39,6 @@ run-cases-spec =
     loop-holds
     case-at-requires
     next-at-requires
-    next-piece-requires
     loop-less
     loop-again
     returns)

@@ -50,11 +50,14 @@ same-length : tie.Need-same-length
 same-length c = search needs
 
 returns : tie.Need-returns
-returns c = record {
-  kept = kept-behind (c .before .before .before .before .before .before .before .before .before .before .before .before .before .args .buffer .now) (c .before .before .before .before .before .before .before .before .before .before .before .before .before .args .from) _ _ _ (c .before .before .before .before .before .before .before .before .before .before .shift .result + c .before .before .before .before .before .before .before .least .result - c .before .before .before .before .before .before .before .before .before .before .shift .result) (c .before .before .before .before .before .read .last .1 .0) (c .before .before .before .before .before .before .before .before .before .before .shift .ensures .0) (c .before .before .before .before .before .before .before .before .before .before .shift .ensures .1) (omega arith);
-  more = omega arith;
-  fits = search needs;
-}
+returns c =
+    let a = c .before .before .before .before .before .before .before .before .before .before .before .before .before .args in
+    let s = c .before .before .before .before .before .before .before .before .before .before .shift in
+    record {
+      kept = kept-behind (a .buffer .now) (a .from) _ _ _ (s .result + c .before .before .before .before .before .before .before .least .result - s .result) (c .before .before .before .before .before .read .last .1 .0) (s .ensures .0) (s .ensures .1) (omega arith);
+      more = omega arith;
+      fits = search needs;
+    }
 
 pub refill-spec : {M : Type 1} → statement M
 refill-spec =

@@ -47,14 +47,22 @@ new-job-requires : tie.Need-new-job-requires Inv-loop μ-loop
 new-job-requires c κs = search needs
 
 loop-holds : tie.Need-loop-holds Inv-loop μ-loop
-loop-holds c = record {
-  kept = subst (λ x. JobKept x (buffersOf (c .before .before .before .before .before .before .before .name-room .result) zeros (c .before .before .before .before .before .before .base-room .result) zeros zeros (c .before .before .before .before .before .rank-room .result) (c .before .before .before .before .column .result) (c .before .before .before .column2 .result) (c .before .before .column3 .result) zeros zeros zeros)) (sym (c .new-job .ensures)) (new-kept _ _ _ _ _ _ (sym (c .before .before .before .before .before .before .before .name-room .ensures)) (sym (c .before .before .before .before .before .before .base-room .ensures)) (sym (c .before .before .before .before .before .rank-room .ensures)) (sym (c .before .before .before .before .column .ensures)) (sym (c .before .before .before .column2 .ensures)) (sym (c .before .before .column3 .ensures)));
-  places = sym (c .before .column4 .ensures);
-  hand = record { ordered = omega arith; within = omega arith };
-  input = sym (c .before .before .before .before .before .before .before .before .before .input-room .ensures);
-  output = sym (c .before .before .before .before .before .before .before .before .output-room .ensures);
-  room = omega arith;
-}
+loop-holds c =
+    let is = c .before .before .before .before .before .before .before .name-room in
+    let bs = c .before .before .before .before .before .before .base-room in
+    let ranked = c .before .before .before .before .before .rank-room in
+    let ks = c .before .before .before .before .column in
+    let rs = c .before .before .before .column2 in
+    let os = c .before .before .column3 in
+    record {
+      kept = subst (λ j. JobKept j (buffersOf (is .result) zeros (bs .result) zeros zeros (ranked .result) (ks .result) (rs .result) (os .result) zeros zeros zeros)) (sym (c .new-job .ensures))
+          (new-kept _ _ _ _ _ _ (sym (is .ensures)) (sym (bs .ensures)) (sym (ranked .ensures)) (sym (ks .ensures)) (sym (rs .ensures)) (sym (os .ensures)));
+      places = sym (c .before .column4 .ensures);
+      hand = record { ordered = omega arith; within = omega arith };
+      input = sym (c .before .before .before .before .before .before .before .before .before .input-room .ensures);
+      output = sym (c .before .before .before .before .before .before .before .before .output-room .ensures);
+      room = omega arith;
+    }
 
 slice-aggregate-advance : tie.Need-slice-aggregate-advance Inv-loop μ-loop
 slice-aggregate-advance c = sym (c .before .before .loop .inv .output)

@@ -17,7 +17,7 @@ sub-n : tie.Need-sub-n Inv-loop μ-loop
 sub-n c = omega arith
 
 loop-holds : tie.Need-loop-holds Inv-loop μ-loop
-loop-holds c = moved-none _ _ _ (omega arith)
+loop-holds c = moved-none _ _ _ _ (omega arith) (omega arith)
 
 add-buffer : tie.Need-add-buffer Inv-loop μ-loop
 add-buffer c = omega arith
