@@ -21,6 +21,10 @@ use Rattle.fragment_lines.specs.Answer.{answerLines, answerRoom, AnswerL
 pub two-added : {i j : ℕ} {a b out out₁ out′ : List ℕ} {at p r : ℕ} → AddsAtMost i a out at out₁ p → AddsAtMost j b out₁ p out′ r → AddsAtMost (i + j) (a ++ b) out at out′ r
 two-added f g = record { adds = adds-both (f .adds) (g .adds); room = omega arith }
 
+-- where entries are lent, fewer are
+pub fewer-lent : (ids ends entries : List ℕ) (m n : ℕ) → m ≤ n → EntriesLent ids ends entries n → EntriesLent ids ends entries m
+fewer-lent ids ends entries m n h l = record { named = l .named; listed = omega (arith, l .listed); placed = λ i below. l .placed i (omega arith) }
+
 module _ (ids ends entries : List ℕ) (width : ℕ) (a : FragmentAnswer) (lent : AnswerLent ids ends entries width a) where
   pub lent-single : (m : Mapping) → a ≡ fragments.Single m → EntriesLent ids ends entries (m .groups)
   lent-single m e = subst (AnswerLent ids ends entries width) e lent

@@ -1,6 +1,7 @@
 -- `fragment_lines::put_mate` meets its contract: R, and G behind it.
 -- Assumes nothing.
-use Rattle.fragment_lines.proofs.Answering.{two-added}
+use native.Mathlib.Omega.{arith}
+use Rattle.fragment_lines.proofs.Answering.{two-added, fewer-lent}
 use borrow.Author.Needs.{needs}
 use Rattle.fragment_lines.proofs.put_mate.Statement.{statement}
 use Rattle.fragment_lines.proofs.put_mate.Tie as tie
@@ -9,7 +10,10 @@ put-read-requires : tie.Need-put-read-requires
 put-read-requires c κs = search needs
 
 put-groups-requires : tie.Need-put-groups-requires
-put-groups-requires c κs = search needs
+put-groups-requires c κs =
+    let s = c .before .before .before .before .before .before .before .before .before in
+    let a = s .args in
+    (fewer-lent (a .identifiers .now) (a .ends .now) (a .entries .now) _ _ (omega arith) (s .pre .0), omega (arith, s .pre .1, c .before .before .before .put-read .ensures .room, c .before .before .before .put-read .kept .0))
 
 same-length : tie.Need-same-length
 same-length c = search needs
