@@ -99,7 +99,7 @@ module _ (j : Job) (b : Buffers) (kept : JobKept j b) (ended : Bool) (out : List
     pub supplies : (r : Supplied) (is ies bs bes ms : List ℕ) → SupplyKept (r .supply) is ies bs bes ms
         → SupplyTold ended (suppliedOf j b) bytes out at out′ r (suppliedIn (r .supply) is ies bs bes ms)
         → JobAdvances ended j b bytes out at out′ (record { job = record { stage = j .stage; supply = r .supply; indexed = j .indexed; state = j .state }; advance = r .advance })
-            (buffersOf is ies bs bes ms (b .ranked) (b .keys) (b .ranks) (b .positions) (b .placements) (b .singles) (b .multi))
+        (buffersOf is ies bs bes ms (b .ranked) (b .keys) (b .ranks) (b .positions) (b .placements) (b .singles) (b .multi))
     supplies r is ies bs bes ms room t =
         record {
           advances = rw second (t s);
@@ -196,7 +196,7 @@ module _ (j : Job) (b : Buffers) (kept : JobKept j b) (ended : Bool) (out : List
         → take (j .supply .targets) ps′ ≡ ps → take (j .supply .targets) ss′ ≡ ss → take (j .supply .targets) ms′ ≡ ms
         → length ps′ ≡ length (b .placements) → length ss′ ≡ length (b .singles) → length ms′ ≡ length (b .multi)
         → JobAdvances ended j b bytes out at out′ (record { job = record { stage = j .stage; supply = j .supply; indexed = j .indexed; state = r .state }; advance = r .advance })
-            (buffersOf (b .identifiers) (b .identifierEnds) (b .bases) (b .baseEnds) (b .marks) (b .ranked) (b .keys) (b .ranks) (b .positions) ps′ ss′ ms′)
+        (buffersOf (b .identifiers) (b .identifierEnds) (b .bases) (b .baseEnds) (b .marks) (b .ranked) (b .keys) (b .ranks) (b .positions) ps′ ss′ ms′)
     runs bytes r ps ss ms ps′ ss′ ms′ ran e f g x y z =
         record {
           advances = rw (third, e, f, g) (ran .advances);

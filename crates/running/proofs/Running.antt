@@ -106,8 +106,7 @@ module _ (c : Catalogue) (ranked ks rs os : List ℕ) (h : Held) (entries : List
   -- refused, nothing changes
   pub fragment-refuses : (n : ℕ) → a .answer ≡ fragments.Refused n → Ends (running c h) (3 ∷ bytes) (refusalLine n) × (after ≡ h)
   fragment-refuses n told =
-      let w = outcome-number (fragmentRefusal auditSeed auditOffset c (lentOf c) h f (entryCount entries)) n _ (sym (audits .answer) ∙ ap fragmentOutcome told) in
-      (
+      let w = outcome-number (fragmentRefusal auditSeed auditOffset c (lentOf c) h f (entryCount entries)) n _ (sym (audits .answer) ∙ ap fragmentOutcome told) in (
         fragment-refused c h bytes f (head .end) read n (sym refusal-is ∙ w .0) (w .1),
         audits .held ∙ refused-holds (fragmentRefusal auditSeed auditOffset c (lentOf c) h f (entryCount entries)) (λ z. w .1 (sym (w .0) ∙ z)) (fragmentAccepted auditSeed auditOffset c (lentOf c) h f) h,
       )
@@ -118,8 +117,8 @@ module _ (c : Catalogue) (ranked ks rs os : List ℕ) (h : Held) (entries : List
       let w = outcome-accepted (fragmentRefusal auditSeed auditOffset c (lentOf c) h f (entryCount entries)) _ rows (sym (audits .answer) ∙ told) in
       let booked : after ≡ fragmentAccepted auditSeed auditOffset c (lentOf c) h f = audits .held ∙ ap (λ n. heldAfter n (fragmentAccepted auditSeed auditOffset c (lentOf c) h f) h) (w .0) in
       let left : entries′ ≡ fragmentWritten auditSeed auditOffset c (lentOf c) h f (replicate (4 * streamEntries) 0) =
-          audits .left ∙ ap (λ n. entriesLeft n (fragmentWritten auditSeed auditOffset c (lentOf c) h f entries) entries) (w .0) ∙ written-anew c h f streamEntries entries (replicate (4 * streamEntries) 0) (lent .whole) (length-replicate {A = ℕ} (4 * streamEntries) 0) in
+      audits .left ∙ ap (λ n. entriesLeft n (fragmentWritten auditSeed auditOffset c (lentOf c) h f entries) entries) (w .0) ∙ written-anew c h f streamEntries entries (replicate (4 * streamEntries) 0) (lent .whole) (length-replicate {A = ℕ} (4 * streamEntries) 0) in
       let text : lines ≡ linesOf c h f =
-          accepted-lines (names c) (head .ordinal) (4 * shareOf (h .state .settings .mode) streamEntries) _ _ _ entries′ (head .count) (a .answer) (told ∙ ap accepted (sym (w .1)))
-          ∙ ap (fragmentLines (names c) (head .ordinal) (4 * shareOf (h .state .settings .mode) streamEntries) (f .reads) (fragmentRows auditSeed auditOffset c (lentOf c) h f)) left in
+      accepted-lines (names c) (head .ordinal) (4 * shareOf (h .state .settings .mode) streamEntries) _ _ _ entries′ (head .count) (a .answer) (told ∙ ap accepted (sym (w .1)))
+      ∙ ap (fragmentLines (names c) (head .ordinal) (4 * shareOf (h .state .settings .mode) streamEntries) (f .reads) (fragmentRows auditSeed auditOffset c (lentOf c) h f)) left in
       (rw (booked, text) (fragment-accepted c h bytes f (head .end) read (sym refusal-is ∙ w .0)), subst (Passes c) (sym booked) (accepted-passes c h (lent .passes) f))

@@ -16,10 +16,10 @@ use advances::wait;
 use advances::wait_or_refuse;
 use audit_rules::calls::FragmentAnswer;
 use audit_rules::settings::AuditState;
+use finish_lines::put_finish;
 use finishing::finish_tested;
 use fragment_stream::FragmentRead;
 use fragment_stream::read_fragment;
-use finish_lines::put_finish;
 use told_fragments::tell_fragment;
 
 // How far the step went, and the state of the audit.

@@ -28,7 +28,7 @@ same-length-5 : tie.Need-same-length-5
 same-length-5 c = search needs
 
 returns : tie.Need-returns
-returns c = 
+returns c =
     let s = c .before .before .before .before .before .before .before .before .before .before .before .before .before .before .before .before .before .before .before .before .before .before .before .before .before .before .before .before .before .before .before .before in
     let a = s .args in
     at-code (catalogueOf (a .identifiers .now) (a .identifier-ends .now) (a .bases .now) (a .base-ends .now) (a .marks .now)) (heldOf (a .state) (a .placements .now) (a .singles .now) (a .multi .now)) (a .ended) (a .bytes .now) (a .out .now) (a .at) _ _ _ (a .code) 3 (omega (arith, c .before .before .before .before .before .before .before .before .before .before .before .before .before .before .before .before .if1 .taken)) (c .before .before .before .before .before .before .before .before .before .before .run-fragment .ensures)
@@ -40,7 +40,7 @@ same-length-6 : tie.Need-same-length-6
 same-length-6 c = search needs
 
 returns-2 : tie.Need-returns-2
-returns-2 c = 
+returns-2 c =
     let s = c .before .before .before .before .before .before .before .before .before .before .before .before .before .before .before .before .before .before .before .before .before in
     let a = s .args in
     other-ran (catalogueOf (a .identifiers .now) (a .identifier-ends .now) (a .bases .now) (a .base-ends .now) (a .marks .now)) (a .ranked .now) (a .keys .now) (a .ranks .now) (a .positions .now) (heldOf (a .state) (a .placements .now) (a .singles .now) (a .multi .now)) (a .entries .now) (s .pre .0) (a .ended) (a .bytes .now) (a .out .now) (a .at) _ (a .code) (λ e. omega arith) (λ e. omega arith) _ (c .before .before .refuse .ensures)
@@ -52,7 +52,7 @@ same-length-7 : tie.Need-same-length-7
 same-length-7 c = search needs
 
 returns-3 : tie.Need-returns-3
-returns-3 c = 
+returns-3 c =
     let s = c .before .before .before .before .before .before .before .before .before .before .before .before .before .before .before .before .before .before .before .before .before .before in
     let a = s .args in
     at-code (catalogueOf (a .identifiers .now) (a .identifier-ends .now) (a .bases .now) (a .base-ends .now) (a .marks .now)) (heldOf (a .state) (a .placements .now) (a .singles .now) (a .multi .now)) (a .ended) (a .bytes .now) (a .out .now) (a .at) _ _ _ (a .code) 5 (omega arith) (behind-ran (catalogueOf (a .identifiers .now) (a .identifier-ends .now) (a .bases .now) (a .base-ends .now) (a .marks .now)) (a .ranked .now) (a .keys .now) (a .ranks .now) (a .positions .now) (heldOf (a .state) (a .placements .now) (a .singles .now) (a .multi .now)) (a .entries .now) (s .pre .0) (a .ended) (a .bytes .now) (a .out .now) (a .at) _ (omega arith) _ (c .before .before .refuse2 .ensures))
@@ -61,7 +61,7 @@ finish-tested-requires : tie.Need-finish-tested-requires
 finish-tested-requires c κs = search needs
 
 put-finish-requires : tie.Need-put-finish-requires
-put-finish-requires c κs = 
+put-finish-requires c κs =
     let s = c .before .before .before .before .before .before .before .before .before .before .before .before .before .before .before .before .before .before .before .before .before .before .before .before .before .before .before in
     let a = s .args in
     finish-lent (catalogueOf (a .identifiers .now) (a .identifier-ends .now) (a .bases .now) (a .base-ends .now) (a .marks .now)) (a .ranked .now) (a .keys .now) (a .ranks .now) (a .positions .now) (heldOf (a .state) (a .placements .now) (a .singles .now) (a .multi .now)) (a .entries .now) (s .pre .0) (a .ended) (a .bytes .now) (a .out .now) (a .at) (a .out .now) (s .pre .1)
@@ -79,7 +79,7 @@ same-length-11 : tie.Need-same-length-11
 same-length-11 c = search needs
 
 returns-4 : tie.Need-returns-4
-returns-4 c = 
+returns-4 c =
     let s = c .before .before .before .before .before .before .before .before .before .before .before .before .before .before .before .before .before .before .before .before .before .before .before .before .before .before .before .before .before .before in
     let a = s .args in
     at-code (catalogueOf (a .identifiers .now) (a .identifier-ends .now) (a .bases .now) (a .base-ends .now) (a .marks .now)) (heldOf (a .state) (a .placements .now) (a .singles .now) (a .multi .now)) (a .ended) (a .bytes .now) (a .out .now) (a .at) _ _ _ (a .code) 5 (omega (arith, c .before .before .before .before .before .before .before .before .before .before .before .before .before .if2 .left)) (finish-ran (catalogueOf (a .identifiers .now) (a .identifier-ends .now) (a .bases .now) (a .base-ends .now) (a .marks .now)) (a .ranked .now) (a .keys .now) (a .ranks .now) (a .positions .now) (heldOf (a .state) (a .placements .now) (a .singles .now) (a .multi .now)) (a .entries .now) (s .pre .0) (a .ended) (a .bytes .now) (a .out .now) (a .at) _ (c .before .before .before .before .before .before .before .before .before .before .before .if4 .taken) (none-there _ (omega (arith, c .before .before .before .before .before .before .before .before .before .before .before .before .if3 .left))) _ (c .before .before .before .before .before .before .before .finish-tested .ensures) _ (c .before .before .put-finish .ensures))
@@ -88,7 +88,7 @@ wait-requires : tie.Need-wait-requires
 wait-requires c κs = search needs
 
 returns-5 : tie.Need-returns-5
-returns-5 c = 
+returns-5 c =
     let s = c .before .before .before .before .before .before .before .before .before .before .before .before .before .before .before .before .before .before .before .before in
     let a = s .args in
     at-code (catalogueOf (a .identifiers .now) (a .identifier-ends .now) (a .bases .now) (a .base-ends .now) (a .marks .now)) (heldOf (a .state) (a .placements .now) (a .singles .now) (a .multi .now)) (a .ended) (a .bytes .now) (a .out .now) (a .at) _ _ _ (a .code) 5 (omega arith) (wait-ran (catalogueOf (a .identifiers .now) (a .identifier-ends .now) (a .bases .now) (a .base-ends .now) (a .marks .now)) (a .ranked .now) (a .keys .now) (a .ranks .now) (a .positions .now) (heldOf (a .state) (a .placements .now) (a .singles .now) (a .multi .now)) (a .entries .now) (s .pre .0) (a .ended) (a .bytes .now) (a .out .now) (a .at) _ (c .before .if4 .left) (none-there _ (omega arith)) _ (c .wait .ensures) refl)

@@ -28,13 +28,13 @@ enum-known-head : tie.Need-enum-known-head
 enum-known-head c = search needs
 
 add-n : tie.Need-add-n
-add-n c = 
+add-n c =
     let s = c .before .before .before .before .before .before .before .before .before .before .before .before .before .before .before .before .before .before .before .before in
     let a = s .args in
     omega (arith, end-most (catalogueOf (a .identifiers .now) (a .identifier-ends .now) (a .bases .now) (a .base-ends .now) (a .marks .now)) (a .ranked .now) (a .keys .now) (a .ranks .now) (a .positions .now) (heldOf (a .state) (a .placements .now) (a .singles .now) (a .multi .now)) (a .entries .now) (s .pre .0) (a .ended) (a .bytes .now) (a .out .now) (a .at) (a .out .now) _ (c .before .before .before .before .read-fragment .ensures) _ (c .before .before .head .given .1))
 
 tell-fragment-requires : tie.Need-tell-fragment-requires
-tell-fragment-requires c κs = 
+tell-fragment-requires c κs =
     let s = c .before .before .before .before .before .before .before .before .before .before .before .before .before .before .before .before .before .before .before .before .before .before .before .before .before in
     let a = s .args in
     tell-lent (catalogueOf (a .identifiers .now) (a .identifier-ends .now) (a .bases .now) (a .base-ends .now) (a .marks .now)) (a .ranked .now) (a .keys .now) (a .ranks .now) (a .positions .now) (heldOf (a .state) (a .placements .now) (a .singles .now) (a .multi .now)) (a .entries .now) (s .pre .0) (a .ended) (a .bytes .now) (a .out .now) (a .at) (a .out .now) _ (c .before .before .before .before .before .before .before .before .before .read-fragment .ensures) _ (c .before .before .before .before .before .before .before .head .given .1) (s .pre .1)
@@ -46,7 +46,7 @@ same-length : tie.Need-same-length
 same-length c = search needs
 
 returns : tie.Need-returns
-returns c = 
+returns c =
     let s = c .before .before .before .before .before .before .before .before .before .before .before .before .before .before .before .before .before .before .before .before .before .before in
     let a = s .args in
     fragment-wrong-ran (catalogueOf (a .identifiers .now) (a .identifier-ends .now) (a .bases .now) (a .base-ends .now) (a .marks .now)) (a .ranked .now) (a .keys .now) (a .ranks .now) (a .positions .now) (heldOf (a .state) (a .placements .now) (a .singles .now) (a .multi .now)) (a .entries .now) (s .pre .0) (a .ended) (a .bytes .now) (a .out .now) (a .at) _ _ (c .before .before .before .before .before .before .read-fragment .ensures) (c .before .before .before .before .enum-told .given .1) _ (c .before .before .refuse .ensures)
@@ -55,7 +55,7 @@ same-length-2 : tie.Need-same-length-2
 same-length-2 c = search needs
 
 returns-2 : tie.Need-returns-2
-returns-2 c = 
+returns-2 c =
     let s = c .before .before .before .before .before .before .before .before .before .before .before .before .before .before .before .before .before .before .before .before .before .before in
     let a = s .args in
     fragment-short-ran (catalogueOf (a .identifiers .now) (a .identifier-ends .now) (a .bases .now) (a .base-ends .now) (a .marks .now)) (a .ranked .now) (a .keys .now) (a .ranks .now) (a .positions .now) (heldOf (a .state) (a .placements .now) (a .singles .now) (a .multi .now)) (a .entries .now) (s .pre .0) (a .ended) (a .bytes .now) (a .out .now) (a .at) _ _ (c .before .before .before .before .before .before .read-fragment .ensures) (c .before .before .before .before .enum-told2 .given .1) _ (c .before .before .wait-or-refuse .ensures)
@@ -76,7 +76,7 @@ same-length-7 : tie.Need-same-length-7
 same-length-7 c = search needs
 
 returns-3 : tie.Need-returns-3
-returns-3 c = 
+returns-3 c =
     let s = c .before .before .before .before .before .before .before .before .before .before .before .before .before .before .before .before .before .before .before .before .before .before .before .before .before .before .before .before .before .before .before .before .before .before .before .before .before .before .before in
     let a = s .args in
     fragment-ran (catalogueOf (a .identifiers .now) (a .identifier-ends .now) (a .bases .now) (a .base-ends .now) (a .marks .now)) (a .ranked .now) (a .keys .now) (a .ranks .now) (a .positions .now) (heldOf (a .state) (a .placements .now) (a .singles .now) (a .multi .now)) (a .entries .now) (s .pre .0) (a .ended) (a .bytes .now) (a .out .now) (a .at) _ _ (c .before .before .before .before .before .before .before .before .before .before .before .before .before .before .before .before .before .before .before .before .before .before .before .read-fragment .ensures) _ (c .before .before .before .before .before .before .before .before .before .before .before .before .before .before .before .before .before .before .before .before .before .head .given .1) _ _ _ (c .before .before .before .before .before .before .before .before .before .before .before .before .before .tell-fragment .ensures) _ refl _ (c .progress-of .ensures)
