@@ -1,0 +1,20 @@
+-- `records::advance::examined_to` meets its contract: the one count that is raised.
+-- Assumes nothing.
+use borrow.Author.Needs.{needs}
+use Rattle.records.proofs.advance.examined_to.Statement.{statement}
+use Rattle.records.proofs.advance.examined_to.Tie as tie
+
+sub-raised-by : tie.Need-sub-raised-by
+sub-raised-by c = search needs
+
+raised-by-requires : tie.Need-raised-by-requires
+raised-by-requires c κs = search needs
+
+returns : tie.Need-returns
+returns c =
+    let w = c .before .args .work in
+    let e = c .raised-by .ensures in
+    λ i. record { lookups = w .lookups; hits = w .hits; examined = e i; comparisons = w .comparisons; seen = w .seen }
+
+pub examined-to-spec : {M : Type 1} → statement M
+examined-to-spec = tie.close (tie.spec sub-raised-by raised-by-requires returns)
