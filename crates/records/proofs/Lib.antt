@@ -1,3 +1,5 @@
 pub mod Along
 pub mod Onward
 pub mod Lies
+pub mod Filling
+pub mod Again

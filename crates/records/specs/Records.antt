@@ -1,9 +1,8 @@
 -- An index lent as one slice of records, copied into columns (REFERENCE.md, "Mapping").
 use mathlib.Core.Path.{_≡_}
-use mathlib.Core.List.{List, map}
+use mathlib.Core.List.{List, map, _++_}
 use Prim.Native.Nat.{ℕ, _<_, _≤_}
-use lib.ListN.{length, take, set}
-use Rattle.seeds.specs.Seeds.{placed}
+use lib.ListN.{length, take, drop, set}
 use Rattle.records.specs.declared.copy.SeedPosting.{SeedPosting}
 
 -- ---- the fields of records, as columns
@@ -25,7 +24,7 @@ pub record RowIn (i : ℕ) (ks rs os : List ℕ) : Type 0 where
   pub ranks : i < length rs
   pub positions : i < length os
 
--- row i holds the fields of a record
+-- row i holds the fields of a record, and the other rows stay
 pub record RowSet (i : ℕ) (p : SeedPosting) (ks rs os ks′ rs′ os′ : List ℕ) : Type 0 where
   pub keys : ks′ ≡ set ks i (p .key)
   pub ranks : rs′ ≡ set rs i (p .rank)
@@ -34,14 +33,14 @@ pub record RowSet (i : ℕ) (p : SeedPosting) (ks rs os ks′ rs′ os′ : List
 -- ---- n records
 
 -- there are n of them, and every column has room for them
-pub record Fits (n records : ℕ) (ks rs os : List ℕ) : Type 0 where
-  pub records-in : n ≤ records
+pub record Fits (n : ℕ) (ps : List SeedPosting) (ks rs os : List ℕ) : Type 0 where
+  pub records-in : n ≤ length ps
   pub keys : n ≤ length ks
   pub ranks : n ≤ length rs
   pub positions : n ≤ length os
 
--- the columns hold the fields of the first n records at the front, and what they held behind
+-- the first n rows hold the fields of the first n records, and the other rows stay
 pub record Copied (n : ℕ) (ps : List SeedPosting) (ks rs os ks′ rs′ os′ : List ℕ) : Type 0 where
-  pub keys : ks′ ≡ placed 0 (keysIn (take n ps)) ks
-  pub ranks : rs′ ≡ placed 0 (ranksIn (take n ps)) rs
-  pub positions : os′ ≡ placed 0 (positionsIn (take n ps)) os
+  pub keys : ks′ ≡ keysIn (take n ps) ++ drop n ks
+  pub ranks : rs′ ≡ ranksIn (take n ps) ++ drop n rs
+  pub positions : os′ ≡ positionsIn (take n ps) ++ drop n os

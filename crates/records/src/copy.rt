@@ -29,7 +29,7 @@ pub fn copy_records(
     records: &[SeedPosting],
     n: usize,
 )
-    requires { ⌜ Fits n (length (now records)) (now keys) (now ranks) (now positions) ⌝ }
+    requires { ⌜ Fits n (now records) (now keys) (now ranks) (now positions) ⌝ }
     ensures { λ _. ⌜ Copied n (now (records .entry)) (old keys) (old ranks) (old positions) (new keys) (new ranks) (new positions) ⌝ }
 {
     let mut i = 0;
