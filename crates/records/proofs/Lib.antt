@@ -3,3 +3,4 @@ pub mod Onward
 pub mod Lies
 pub mod Filling
 pub mod Again
+pub mod Entering

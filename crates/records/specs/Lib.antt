@@ -1,2 +1,3 @@
 pub mod Advance
 pub mod Records
+pub mod Entry

@@ -2,3 +2,4 @@
 // records.
 pub mod advance;
 pub mod copy;
+pub mod entry;

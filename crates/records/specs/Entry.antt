@@ -1,0 +1,80 @@
+-- What the call answers to which an index is lent as one slice of records (REFERENCE.md, "Mapping").
+use mathlib.Core.Path.{_≡_}
+use mathlib.Core.List.{List, _++_}
+use Prim.Native.Nat.{ℕ, zero, suc, _≤_, min}
+use lib.ListN.{length, take, drop}
+use lib.Dec.{leb}
+use Rattle.promises.specs.Refusal.{unless, _orElse_, Outcome, refused}
+use Rattle.catalogue.specs.Catalogue.{Catalogue}
+use Rattle.index.specs.Index.{planRefusal}
+use Rattle.scan.specs.Entries.{entryCount}
+use Rattle.answers.specs.Answer.{Leaves}
+use Rattle.answers.specs.declared.answer.MapAnswer.{MapAnswer}
+use Rattle.indexed_mapper.specs.Map.{mapAnswer, mapEntries}
+use Rattle.records.specs.Records.{keysIn, ranksIn, positionsIn}
+use Rattle.records.specs.declared.copy.SeedPosting.{SeedPosting}
+use Rattle.records.specs.declared.entry.Checked.{Checked}
+
+-- ---- refusals
+
+-- entries of the shortest column
+abbrev pub room : List ℕ → List ℕ → List ℕ → ℕ
+room ks rs os = min (length ks) (min (length rs) (length os))
+
+-- 5: fewer entries than records
+abbrev pub indexRoom : ℕ → ℕ → ℕ
+indexRoom records entries = unless (leb records entries) 5
+
+-- 1 to 5, in front of `map`'s own
+abbrev pub copyRefusal : ℕ → Catalogue → ℕ → ℕ → ℕ
+copyRefusal q c records entries = planRefusal q c orElse indexRoom records entries
+
+-- by the refusal of a check: what follows where it is 0, and what stands where it is not
+abbrev pub ifPassed : {A : Type 0} → ℕ → A → A → A
+ifPassed zero follows stands = follows
+ifPassed (suc n) follows stands = stands
+
+-- ---- the check
+
+-- every record is copied, or none where the call is refused
+pub record RoomChecked (refusal records entries : ℕ) (r : Checked) : Type 0 where
+  pub refusal-is : r .refusal ≡ (refusal orElse indexRoom records entries)
+  pub rows-are : r .rows ≡ ifPassed (r .refusal) records 0
+
+abbrev pub CheckedAs : ℕ → Catalogue → ℕ → ℕ → Checked → Type 0
+CheckedAs q c records entries r = RoomChecked (planRefusal q c) records entries r
+
+-- ---- the call
+
+-- n rows are in every column
+pub record RowsIn (n : ℕ) (ks rs os : List ℕ) : Type 0 where
+  pub keys : n ≤ length ks
+  pub ranks : n ≤ length rs
+  pub positions : n ≤ length os
+
+-- the answer and the entries by the refusal of a check: what `map` answers and leaves with these columns, or that refusal
+-- and the entries as they were
+abbrev pub MapsBy : ℕ → ℕ → Catalogue → List ℕ → List ℕ → List ℕ → List ℕ → ℕ → MapAnswer → List ℕ → List ℕ → Type 0
+MapsBy refusal q c ks rs os read limit r es es′ =
+    Leaves (ifPassed refusal (mapAnswer q c ks rs os read limit (entryCount es)) (refused refusal)) (ifPassed refusal (mapEntries q c ks rs os read limit es) es) r es′
+
+-- the first rows of the columns, which stay
+pub record MapsCopied (q : ℕ) (c : Catalogue) (checked : Checked) (read : List ℕ) (limit : ℕ) (r : MapAnswer) (es ks rs os es′ ks′ rs′ os′ : List ℕ) : Type 0 where
+  pub mapped : MapsBy (checked .refusal) q c (take (checked .rows) ks) (take (checked .rows) rs) (take (checked .rows) os) read limit r es es′
+  pub keys : ks′ ≡ ks
+  pub ranks : rs′ ≡ rs
+  pub positions : os′ ≡ os
+
+-- a column after the call: a field of the records at the front, or as it was where the check refused
+abbrev pub columnAfter : ℕ → List ℕ → List ℕ → List ℕ
+columnAfter refusal fields column = ifPassed refusal (fields ++ drop (length fields) column) column
+
+-- what `map` answers and leaves with columns of the records' fields, and what the columns hold
+pub record MapsFields (refusal q : ℕ) (c : Catalogue) (ps : List SeedPosting) (read : List ℕ) (limit : ℕ) (r : MapAnswer) (es ks rs os es′ ks′ rs′ os′ : List ℕ) : Type 0 where
+  pub mapped : MapsBy refusal q c (keysIn ps) (ranksIn ps) (positionsIn ps) read limit r es es′
+  pub keys : ks′ ≡ columnAfter refusal (keysIn ps) ks
+  pub ranks : rs′ ≡ columnAfter refusal (ranksIn ps) rs
+  pub positions : os′ ≡ columnAfter refusal (positionsIn ps) os
+
+abbrev pub MapsRecords : ℕ → Catalogue → List SeedPosting → List ℕ → ℕ → MapAnswer → List ℕ → List ℕ → List ℕ → List ℕ → List ℕ → List ℕ → List ℕ → List ℕ → Type 0
+MapsRecords q c ps read limit r es ks rs os es′ ks′ rs′ os′ = MapsFields (copyRefusal q c (length ps) (room ks rs os)) q c ps read limit r es ks rs os es′ ks′ rs′ os′
