@@ -4,3 +4,4 @@ pub mod Lies
 pub mod Filling
 pub mod Again
 pub mod Entering
+pub mod Lent
