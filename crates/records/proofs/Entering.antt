@@ -18,11 +18,11 @@ use Rattle.answers.specs.Answer.{Leaves}
 use Rattle.answers.specs.declared.answer.MapAnswer.{MapAnswer}
 use Rattle.answers.specs.declared.answer.MapAnswer.the-variants as answers
 use Rattle.indexed_mapper.specs.Map.{MapsTo}
-use Rattle.records.specs.Records.{keysIn, ranksIn, positionsIn, Fits, Copied}
+use Rattle.copying.specs.Records.{keysIn, ranksIn, positionsIn, Fits, Copied}
 use Rattle.records.specs.Entry.{indexRoom, copyRefusal, ifPassed, RoomChecked, CheckedAs, RowsIn, MapsBy, MapsCopied, MapsFields, MapsRecords, room}
-use Rattle.records.specs.declared.copy.SeedPosting.{SeedPosting}
-use Rattle.records.proofs.Filling.{length-filled}
-use Rattle.records.specs.declared.entry.Checked.{Checked}
+use Rattle.copying.specs.declared.SeedPosting.{SeedPosting}
+use Rattle.copying.proofs.Filling.{length-filled}
+use Rattle.records.specs.declared.Checked.{Checked}
 
 -- ---- the check
 

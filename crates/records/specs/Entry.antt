@@ -11,9 +11,9 @@ use Rattle.scan.specs.Entries.{entryCount}
 use Rattle.answers.specs.Answer.{Leaves}
 use Rattle.answers.specs.declared.answer.MapAnswer.{MapAnswer}
 use Rattle.indexed_mapper.specs.Map.{mapAnswer, mapEntries}
-use Rattle.records.specs.Records.{keysIn, ranksIn, positionsIn}
-use Rattle.records.specs.declared.copy.SeedPosting.{SeedPosting}
-use Rattle.records.specs.declared.entry.Checked.{Checked}
+use Rattle.copying.specs.Records.{keysIn, ranksIn, positionsIn}
+use Rattle.copying.specs.declared.SeedPosting.{SeedPosting}
+use Rattle.records.specs.declared.Checked.{Checked}
 
 -- ---- refusals
 

@@ -1,3 +1,1 @@
-pub mod Advance
-pub mod Records
 pub mod Entry

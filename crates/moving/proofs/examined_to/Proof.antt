@@ -1,8 +1,8 @@
--- `records::advance::examined_to` meets its contract: the one count that is raised.
+-- `moving::examined_to` meets its contract: the one count that is raised.
 -- Assumes nothing.
 use borrow.Author.Needs.{needs}
-use Rattle.records.proofs.advance.examined_to.Statement.{statement}
-use Rattle.records.proofs.advance.examined_to.Tie as tie
+use Rattle.moving.proofs.examined_to.Statement.{statement}
+use Rattle.moving.proofs.examined_to.Tie as tie
 
 sub-raised-by : tie.Need-sub-raised-by
 sub-raised-by c = search needs

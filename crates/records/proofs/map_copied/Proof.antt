@@ -1,10 +1,10 @@
--- `records::entry::map_copied` meets its contract: the refusal of the check, or what `map` answers.
+-- `records::map_copied` meets its contract: the refusal of the check, or what `map` answers.
 -- Assumes nothing.
 use mathlib.Core.Path.{refl}
 use Rattle.records.proofs.Entering.{prefix, copied-refused, copied-mapped}
 use borrow.Author.Needs.{needs}
-use Rattle.records.proofs.entry.map_copied.Statement.{statement}
-use Rattle.records.proofs.entry.map_copied.Tie as tie
+use Rattle.records.proofs.map_copied.Statement.{statement}
+use Rattle.records.proofs.map_copied.Tie as tie
 
 returns : tie.Need-returns
 returns c = copied-refused _ _ _ _ _ _ _ _ _ (c .if1 .taken)

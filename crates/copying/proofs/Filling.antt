@@ -5,7 +5,7 @@ use mathlib.Core.List.{List, [], _∷_, map, _++_}
 use Prim.Native.Nat.{ℕ, zero, suc, _<_, _≤_}
 use native.Mathlib.Omega.{arith}
 use lib.ListN.{length, take, drop, set, getD}
-use Rattle.records.specs.declared.copy.SeedPosting.{SeedPosting}
+use Rattle.copying.specs.declared.SeedPosting.{SeedPosting}
 
 -- what stands past the end of a list of records
 abbrev pub none : SeedPosting

@@ -1,8 +1,8 @@
--- `records::entry::checked_as` meets its contract: the refusal of the plan, no room, or room.
+-- `records::checked_as` meets its contract: the refusal of the plan, no room, or room.
 -- Assumes nothing.
 use Rattle.records.proofs.Entering.{refused-before, no-room, with-room}
-use Rattle.records.proofs.entry.checked_as.Statement.{statement}
-use Rattle.records.proofs.entry.checked_as.Tie as tie
+use Rattle.records.proofs.checked_as.Statement.{statement}
+use Rattle.records.proofs.checked_as.Tie as tie
 
 returns : tie.Need-returns
 returns c = refused-before _ _ _ (c .if1 .taken)

@@ -5,7 +5,7 @@ ghost use lib.ListN.{length};
 ghost use Rattle.promises.specs.Slice.{old};
 ghost use Rattle.index.specs.Index.{Lent, lentSequences};
 ghost use Rattle.candidates.specs.Cursor.{CursorIn};
-ghost use Rattle.records.specs.Advance.{raisedBy, examinedMore, Advanced};
+ghost use Rattle.moving.specs.Advance.{raisedBy, examinedMore, Advanced};
 use candidates::cursor::Candidate;
 use candidates::cursor::OrientationCursor;
 use index_search::work::MappingWork;

@@ -1,4 +1,4 @@
--- `records::advance::advanced` meets its contract: a walk of its MIR, by hand. Both records are lent to `advance` for lifetimes of the call, taken back at their last values, and put together with the candidate.
+-- `moving::advanced` meets its contract: a walk of its MIR, by hand. Both records are lent to `advance` for lifetimes of the call, taken back at their last values, and put together with the candidate.
 -- Assumes nothing.
 use mathlib.Core.Path.{_≡_, refl, ap, subst}
 use Prim.Native.Nat.{ℕ, _-_, _<_, _≤_, _^_}
@@ -49,26 +49,26 @@ use Rattle.candidates.specs.Cursor.{CursorIn}
 use Rattle.candidates.specs.declared.cursor.OrientationCursor.{OrientationCursor}
 use Rattle.candidates.specs.declared.cursor.Candidate.{Candidate}
 use Rattle.index_search.specs.declared.work.MappingWork.{MappingWork}
-use Rattle.records.specs.Advance.{Advanced}
-use Rattle.records.specs.declared.advance.Step.{Step}
-use Rattle.records.proofs.Lies.{lies-in, lies-out}
-use Rattle.records.proofs.Along.{Along, along-vals, along-twice}
+use Rattle.moving.specs.Advance.{Advanced}
+use Rattle.moving.specs.declared.Step.{Step}
+use Rattle.moving.proofs.Lies.{lies-in, lies-out}
+use Rattle.moving.proofs.Along.{Along, along-vals, along-twice}
 use Rattle.candidates.proofs.cursor.OrientationCursor as C
 use Rattle.candidates.proofs.cursor.OrientationCursor.Laws as C′
 use Rattle.index_search.proofs.work.MappingWork as K
 use Rattle.index_search.proofs.work.MappingWork.Laws as K′
 use Rattle.candidates.proofs.cursor.Candidate as D
 use Rattle.candidates.proofs.cursor.Candidate.Laws as D′
-use Rattle.records.proofs.advance.Step as S
-use Rattle.records.proofs.advance.Step.Laws as S′
-use Rattle.records.proofs.advance.advance as advance
-use Rattle.records.proofs.advance.advance.Symbol as advance-def
-use Rattle.records.proofs.advance.advance.Symbol.{name as #advance}
-use Rattle.records.proofs.advance.advance.Met as advance-thm
-use Rattle.records.proofs.advance.advanced.Key.{name as #advanced}
-use Rattle.records.proofs.advance.advanced as advanced
-use Rattle.records.proofs.advance.advanced.Statement as stated
-use Rattle.records.proofs.advance.advanced.Code as code
+use Rattle.moving.proofs.Step as S
+use Rattle.moving.proofs.Step.Laws as S′
+use Rattle.moving.proofs.advance as advance
+use Rattle.moving.proofs.advance.Symbol as advance-def
+use Rattle.moving.proofs.advance.Symbol.{name as #advance}
+use Rattle.moving.proofs.advance.Met as advance-thm
+use Rattle.moving.proofs.advanced.Key.{name as #advanced}
+use Rattle.moving.proofs.advanced as advanced
+use Rattle.moving.proofs.advanced.Statement as stated
+use Rattle.moving.proofs.advanced.Code as code
 
 abbrev stayed : Stays (advanced.ended .signature .params) (advanced.ended .kept)
 stayed =
@@ -273,4 +273,4 @@ advanced-spec 𝓤 H 𝓜 𝓖 𝓡 =
     entered 𝓤 H (tripleOf 𝓤 H (𝓖 .A) advanced.signature (advanced.spec 𝓤 H (𝓖 .A) (𝓜 .mem) (𝓡 .run)))
     (tables 𝓤 H 𝓜 𝓡 code.env .C) (tables 𝓤 H 𝓜 𝓡 code.env .Λ) #advanced code.function (code.unfolded 𝓤 H 𝓜 𝓡)
     (advanced-meets 𝓤 H (𝓖 .A) (givenOf 𝓤 H 𝓜 𝓖) (𝓜 .mem) (𝓡 .run) (tablesOf 𝓤 H 𝓜 (tables 𝓤 H 𝓜 𝓡 code.env))
-    (cited 𝓤 H (Moves 𝓤 H (𝓖 .A) (𝓜 .mem) (𝓡 .run)) 𝓜 𝓡 code.env #advance advance-def.routine code.calls-records·advance·advance (advance-thm.met 𝓤 H 𝓜 𝓖 𝓡)))
+    (cited 𝓤 H (Moves 𝓤 H (𝓖 .A) (𝓜 .mem) (𝓡 .run)) 𝓜 𝓡 code.env #advance advance-def.routine code.calls-moving·advance (advance-thm.met 𝓤 H 𝓜 𝓖 𝓡)))

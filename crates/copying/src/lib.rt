@@ -2,7 +2,7 @@
 ghost use Prim.Native.Nat.{_<_, _≤_};
 ghost use lib.ListN.{length};
 ghost use Rattle.promises.specs.Slice.{old, new};
-ghost use Rattle.records.specs.Records.{RowIn, RowSet, Fits, Copied};
+ghost use Rattle.copying.specs.Records.{RowIn, RowSet, Fits, Copied};
 
 // A seed of an index: its key, the rank of its target, and its position there.
 pub struct SeedPosting {

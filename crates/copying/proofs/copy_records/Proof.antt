@@ -1,4 +1,4 @@
--- `records::copy::copy_records` meets its contract: a walk of its MIR, by hand, with a loop over a slice of records. The invariant is that the columns hold the fields of the first i records.
+-- `copying::copy_records` meets its contract: a walk of its MIR, by hand, with a loop over a slice of records. The invariant is that the columns hold the fields of the first i records.
 -- Assumes nothing.
 use mathlib.Core.Path.{_≡_, refl, sym, _∙_, ap, subst}
 use mathlib.Core.Bool.{Bool, true, false}
@@ -48,20 +48,20 @@ use denote.Triple.Clauses.{ensured, lasts}
 use denote.Triple.Table.{entered, cited}
 use denote.Triple.Walked.{says, needs, Stays, stay-slice, stay-none-slice, stay-none, walkOf, goes-slice, goes-none-slice, goes-none, Walks, ends-at, walked, walk-meets}
 use denote.Exit.{yes}
-use Rattle.records.specs.Records.{RowIn, RowSet, Fits, Copied}
-use Rattle.records.specs.declared.copy.SeedPosting.{SeedPosting}
-use Rattle.records.proofs.Again.{LentAgain, lends-again, comes-back}
-use Rattle.records.proofs.Filling.{none, filled, length-filled, filled-next}
-use Rattle.records.proofs.copy.SeedPosting as P
-use Rattle.records.proofs.copy.SeedPosting.Laws as P′
-use Rattle.records.proofs.copy.put_row as put-row
-use Rattle.records.proofs.copy.put_row.Symbol as put-row-def
-use Rattle.records.proofs.copy.put_row.Symbol.{name as #put-row}
-use Rattle.records.proofs.copy.put_row.Met as put-row-thm
-use Rattle.records.proofs.copy.copy_records.Key.{name as #copy-records}
-use Rattle.records.proofs.copy.copy_records as copies
-use Rattle.records.proofs.copy.copy_records.Statement as stated
-use Rattle.records.proofs.copy.copy_records.Code as code
+use Rattle.copying.specs.Records.{RowIn, RowSet, Fits, Copied}
+use Rattle.copying.specs.declared.SeedPosting.{SeedPosting}
+use Rattle.copying.proofs.Again.{LentAgain, lends-again, comes-back}
+use Rattle.copying.proofs.Filling.{none, filled, length-filled, filled-next}
+use Rattle.copying.proofs.SeedPosting as P
+use Rattle.copying.proofs.SeedPosting.Laws as P′
+use Rattle.copying.proofs.put_row as put-row
+use Rattle.copying.proofs.put_row.Symbol as put-row-def
+use Rattle.copying.proofs.put_row.Symbol.{name as #put-row}
+use Rattle.copying.proofs.put_row.Met as put-row-thm
+use Rattle.copying.proofs.copy_records.Key.{name as #copy-records}
+use Rattle.copying.proofs.copy_records as copies
+use Rattle.copying.proofs.copy_records.Statement as stated
+use Rattle.copying.proofs.copy_records.Code as code
 
 holds : (t : Bool) → Holds t → t ≡ true
 holds true _ = refl
@@ -450,4 +450,4 @@ copy-records-spec 𝓤 H 𝓜 𝓖 𝓡 =
     entered 𝓤 H (tripleOf 𝓤 H (𝓖 .A) copies.signature (copies.spec 𝓤 H (𝓖 .A) (𝓜 .mem) (𝓡 .run)))
     (tables 𝓤 H 𝓜 𝓡 code.env .C) (tables 𝓤 H 𝓜 𝓡 code.env .Λ) #copy-records code.function (code.unfolded 𝓤 H 𝓜 𝓡)
     (copy-records-meets 𝓤 H (𝓖 .A) (givenOf 𝓤 H 𝓜 𝓖) (𝓜 .mem) (𝓡 .run) (tablesOf 𝓤 H 𝓜 (tables 𝓤 H 𝓜 𝓡 code.env))
-    (cited 𝓤 H (Put 𝓤 H (𝓖 .A) (𝓜 .mem) (𝓡 .run)) 𝓜 𝓡 code.env #put-row put-row-def.routine code.calls-records·copy·put-row (put-row-thm.met 𝓤 H 𝓜 𝓖 𝓡)))
+    (cited 𝓤 H (Put 𝓤 H (𝓖 .A) (𝓜 .mem) (𝓡 .run)) 𝓜 𝓡 code.env #put-row put-row-def.routine code.calls-copying·put-row (put-row-thm.met 𝓤 H 𝓜 𝓖 𝓡)))

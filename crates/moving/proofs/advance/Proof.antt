@@ -1,4 +1,4 @@
--- `records::advance::advance` meets its contract: a walk of its MIR, by hand. Both borrows are opened, the cursor is copied and moved on by `next_candidate`, the moved cursor and the counts of `examined_to` are stored, and both borrows are closed.
+-- `moving::advance` meets its contract: a walk of its MIR, by hand. Both borrows are opened, the cursor is copied and moved on by `next_candidate`, the moved cursor and the counts of `examined_to` are stored, and both borrows are closed.
 -- Assumes nothing.
 use mathlib.Core.Path.{_≡_, refl, ap, subst}
 use Prim.Native.Nat.{ℕ, _-_, _<_, _≤_, _^_}
@@ -46,9 +46,9 @@ use Rattle.candidates.specs.Cursor.{CursorIn, Taken}
 use Rattle.candidates.specs.declared.cursor.OrientationCursor.{OrientationCursor}
 use Rattle.candidates.specs.declared.cursor.Candidate.{Candidate}
 use Rattle.index_search.specs.declared.work.MappingWork.{MappingWork}
-use Rattle.records.specs.Advance.{examinedMore, Advanced}
-use Rattle.records.proofs.Along.{Along, along-vals, along-twice}
-use Rattle.records.proofs.Onward.{went-on}
+use Rattle.moving.specs.Advance.{examinedMore, Advanced}
+use Rattle.moving.proofs.Along.{Along, along-vals, along-twice}
+use Rattle.moving.proofs.Onward.{went-on}
 use Rattle.candidates.proofs.cursor.OrientationCursor as C
 use Rattle.candidates.proofs.cursor.OrientationCursor.Laws as C′
 use Rattle.index_search.proofs.work.MappingWork as K
@@ -59,14 +59,14 @@ use Rattle.candidates.proofs.cursor.OrientationCursor.next_candidate as next
 use Rattle.candidates.proofs.cursor.OrientationCursor.next_candidate.Symbol as next-def
 use Rattle.candidates.proofs.cursor.OrientationCursor.next_candidate.Symbol.{name as #next-candidate}
 use Rattle.candidates.proofs.cursor.OrientationCursor.next_candidate.Met as next-thm
-use Rattle.records.proofs.advance.examined_to as counts
-use Rattle.records.proofs.advance.examined_to.Symbol as counts-def
-use Rattle.records.proofs.advance.examined_to.Symbol.{name as #examined-to}
-use Rattle.records.proofs.advance.examined_to.Met as counts-thm
-use Rattle.records.proofs.advance.advance.Key.{name as #advance}
-use Rattle.records.proofs.advance.advance as advance
-use Rattle.records.proofs.advance.advance.Statement as stated
-use Rattle.records.proofs.advance.advance.Code as code
+use Rattle.moving.proofs.examined_to as counts
+use Rattle.moving.proofs.examined_to.Symbol as counts-def
+use Rattle.moving.proofs.examined_to.Symbol.{name as #examined-to}
+use Rattle.moving.proofs.examined_to.Met as counts-thm
+use Rattle.moving.proofs.advance.Key.{name as #advance}
+use Rattle.moving.proofs.advance as advance
+use Rattle.moving.proofs.advance.Statement as stated
+use Rattle.moving.proofs.advance.Code as code
 
 abbrev stayed : Stays (advance.ended .signature .params) (advance.ended .kept)
 stayed =
@@ -284,4 +284,4 @@ advance-spec 𝓤 H 𝓜 𝓖 𝓡 =
     (tables 𝓤 H 𝓜 𝓡 code.env .C) (tables 𝓤 H 𝓜 𝓡 code.env .Λ) #advance code.function (code.unfolded 𝓤 H 𝓜 𝓡)
     (advance-meets 𝓤 H (𝓖 .A) (givenOf 𝓤 H 𝓜 𝓖) (𝓜 .mem) (𝓡 .run) (tablesOf 𝓤 H 𝓜 (tables 𝓤 H 𝓜 𝓡 code.env))
     (cited 𝓤 H (Next 𝓤 H (𝓖 .A) (𝓜 .mem) (𝓡 .run)) 𝓜 𝓡 code.env #next-candidate next-def.routine code.calls-candidates·cursor·OrientationCursor·next-candidate (next-thm.met 𝓤 H 𝓜 𝓖 𝓡))
-    (cited 𝓤 H (Counts 𝓤 H (𝓖 .A) (𝓜 .mem) (𝓡 .run)) 𝓜 𝓡 code.env #examined-to counts-def.routine code.calls-records·advance·examined-to (counts-thm.met 𝓤 H 𝓜 𝓖 𝓡)))
+    (cited 𝓤 H (Counts 𝓤 H (𝓖 .A) (𝓜 .mem) (𝓡 .run)) 𝓜 𝓡 code.env #examined-to counts-def.routine code.calls-moving·examined-to (counts-thm.met 𝓤 H 𝓜 𝓖 𝓡)))

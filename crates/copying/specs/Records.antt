@@ -3,7 +3,7 @@ use mathlib.Core.Path.{_≡_}
 use mathlib.Core.List.{List, map, _++_}
 use Prim.Native.Nat.{ℕ, _<_, _≤_}
 use lib.ListN.{length, take, drop, set}
-use Rattle.records.specs.declared.copy.SeedPosting.{SeedPosting}
+use Rattle.copying.specs.declared.SeedPosting.{SeedPosting}
 
 -- ---- the fields of records, as columns
 

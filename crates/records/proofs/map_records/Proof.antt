@@ -1,4 +1,4 @@
--- `records::entry::map_records` meets its contract: a walk of its MIR, by hand. The check tells how many records are copied, the columns are lent again to `copy_records`, and given for good to `map_copied`.
+-- `records::map_records` meets its contract: a walk of its MIR, by hand. The check tells how many records are copied, the columns are lent again to `copy_records`, and given for good to `map_copied`.
 -- Assumes nothing.
 use mathlib.Core.Path.{_≡_, refl, sym, _∙_, ap, subst}
 use Prim.Native.Nat.{ℕ, _<_, _^_, min}
@@ -42,34 +42,34 @@ use denote.Triple.Table.{entered, cited}
 use denote.Triple.Walked.{says, Stays, gave-slice, stay-none-slice, stay-none, walkOf, goes-gave-slice, goes-none-slice, goes-none, Walks, ends-at, walked, walk-meets}
 use denote.Exit.{yes}
 use Rattle.answers.specs.declared.answer.MapAnswer.{MapAnswer}
-use Rattle.records.specs.Records.{Fits, Copied}
+use Rattle.copying.specs.Records.{Fits, Copied}
 use Rattle.records.specs.Entry.{CheckedAs, RowsIn, MapsCopied, MapsRecords}
-use Rattle.records.specs.declared.copy.SeedPosting.{SeedPosting}
-use Rattle.records.specs.declared.entry.Checked.{Checked}
-use Rattle.records.proofs.Again.{LentAgain, lends-again, comes-back}
+use Rattle.copying.specs.declared.SeedPosting.{SeedPosting}
+use Rattle.records.specs.declared.Checked.{Checked}
+use Rattle.copying.proofs.Again.{LentAgain, lends-again, comes-back}
 use Rattle.records.proofs.Entering.{copy-fits, rows-in, records-mapped}
 use Rattle.records.proofs.Lent.{Given-lists, Spelled, catalogue-of, seed-of, read-of, limit-of, Lent, lent-vals, lent-twice}
-use Rattle.records.proofs.copy.SeedPosting as P
-use Rattle.records.proofs.entry.Checked as N
-use Rattle.records.proofs.entry.Checked.Laws as N′
+use Rattle.copying.proofs.SeedPosting as P
+use Rattle.records.proofs.Checked as N
+use Rattle.records.proofs.Checked.Laws as N′
 use Rattle.answers.proofs.answer.MapAnswer as E
 use Rattle.answers.proofs.answer.MapAnswer.Laws as E′
-use Rattle.records.proofs.entry.check_room as checks
-use Rattle.records.proofs.entry.check_room.Symbol as checks-def
-use Rattle.records.proofs.entry.check_room.Symbol.{name as #check-room}
-use Rattle.records.proofs.entry.check_room.Met as checks-thm
-use Rattle.records.proofs.copy.copy_records as copies
-use Rattle.records.proofs.copy.copy_records.Symbol as copies-def
-use Rattle.records.proofs.copy.copy_records.Symbol.{name as #copy-records}
-use Rattle.records.proofs.copy.copy_records.Met as copies-thm
-use Rattle.records.proofs.entry.map_copied as maps
-use Rattle.records.proofs.entry.map_copied.Symbol as maps-def
-use Rattle.records.proofs.entry.map_copied.Symbol.{name as #map-copied}
-use Rattle.records.proofs.entry.map_copied.Met as maps-thm
-use Rattle.records.proofs.entry.map_records.Key.{name as #map-records}
-use Rattle.records.proofs.entry.map_records as entry
-use Rattle.records.proofs.entry.map_records.Statement as stated
-use Rattle.records.proofs.entry.map_records.Code as code
+use Rattle.records.proofs.check_room as checks
+use Rattle.records.proofs.check_room.Symbol as checks-def
+use Rattle.records.proofs.check_room.Symbol.{name as #check-room}
+use Rattle.records.proofs.check_room.Met as checks-thm
+use Rattle.copying.proofs.copy_records as copies
+use Rattle.copying.proofs.copy_records.Symbol as copies-def
+use Rattle.copying.proofs.copy_records.Symbol.{name as #copy-records}
+use Rattle.copying.proofs.copy_records.Met as copies-thm
+use Rattle.records.proofs.map_copied as maps
+use Rattle.records.proofs.map_copied.Symbol as maps-def
+use Rattle.records.proofs.map_copied.Symbol.{name as #map-copied}
+use Rattle.records.proofs.map_copied.Met as maps-thm
+use Rattle.records.proofs.map_records.Key.{name as #map-records}
+use Rattle.records.proofs.map_records as entry
+use Rattle.records.proofs.map_records.Statement as stated
+use Rattle.records.proofs.map_records.Code as code
 
 abbrev stayed : Stays (entry.ended .signature .params) (entry.ended .kept)
 stayed =
@@ -505,6 +505,6 @@ map-records-spec 𝓤 H 𝓜 𝓖 𝓡 =
     entered 𝓤 H (tripleOf 𝓤 H (𝓖 .A) entry.signature (entry.spec 𝓤 H (𝓖 .A) (𝓜 .mem) (𝓡 .run)))
     (tables 𝓤 H 𝓜 𝓡 code.env .C) (tables 𝓤 H 𝓜 𝓡 code.env .Λ) #map-records code.function (code.unfolded 𝓤 H 𝓜 𝓡)
     (map-records-meets 𝓤 H (𝓖 .A) (givenOf 𝓤 H 𝓜 𝓖) (𝓜 .mem) (𝓡 .run) (tablesOf 𝓤 H 𝓜 (tables 𝓤 H 𝓜 𝓡 code.env))
-    (cited 𝓤 H (Checks 𝓤 H (𝓖 .A) (𝓜 .mem) (𝓡 .run)) 𝓜 𝓡 code.env #check-room checks-def.routine code.calls-records·entry·check-room (checks-thm.met 𝓤 H 𝓜 𝓖 𝓡))
-    (cited 𝓤 H (Copies 𝓤 H (𝓖 .A) (𝓜 .mem) (𝓡 .run)) 𝓜 𝓡 code.env #copy-records copies-def.routine code.calls-records·copy·copy-records (copies-thm.met 𝓤 H 𝓜 𝓖 𝓡))
-    (cited 𝓤 H (Maps 𝓤 H (𝓖 .A) (𝓜 .mem) (𝓡 .run)) 𝓜 𝓡 code.env #map-copied maps-def.routine code.calls-records·entry·map-copied (maps-thm.met 𝓤 H 𝓜 𝓖 𝓡)))
+    (cited 𝓤 H (Checks 𝓤 H (𝓖 .A) (𝓜 .mem) (𝓡 .run)) 𝓜 𝓡 code.env #check-room checks-def.routine code.calls-records·check-room (checks-thm.met 𝓤 H 𝓜 𝓖 𝓡))
+    (cited 𝓤 H (Copies 𝓤 H (𝓖 .A) (𝓜 .mem) (𝓡 .run)) 𝓜 𝓡 code.env #copy-records copies-def.routine code.calls-copying·copy-records (copies-thm.met 𝓤 H 𝓜 𝓖 𝓡))
+    (cited 𝓤 H (Maps 𝓤 H (𝓖 .A) (𝓜 .mem) (𝓡 .run)) 𝓜 𝓡 code.env #map-copied maps-def.routine code.calls-records·map-copied (maps-thm.met 𝓤 H 𝓜 𝓖 𝓡)))
