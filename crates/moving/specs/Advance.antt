@@ -6,6 +6,7 @@ use Rattle.candidates.specs.Cursor.{Taken}
 use Rattle.candidates.specs.declared.cursor.OrientationCursor.{OrientationCursor}
 use Rattle.candidates.specs.declared.cursor.Candidate.{Candidate}
 use Rattle.index_search.specs.declared.work.MappingWork.{MappingWork}
+use Rattle.moving.specs.declared.Step.{Step}
 
 -- 2^64 - 1
 abbrev pub largest : ℕ
@@ -18,6 +19,10 @@ raisedBy count k = min (count + k) largest
 -- the work with k postings more examined, and every other count as it was
 abbrev pub examinedMore : MappingWork → ℕ → MappingWork
 examinedMore w k = record { lookups = w .lookups; hits = w .hits; examined = raisedBy (w .examined) k; comparisons = w .comparisons; seen = w .seen }
+
+-- what a candidate comes to for the cursor and the work that it was taken with
+abbrev pub stepOn : OrientationCursor → MappingWork → Candidate → Step
+stepOn c w r = record { cursor = r .cursor; work = examinedMore w (r .cursor .next - c .next); candidate = r }
 
 -- cursor c and work w moved on to c′ and w′: the candidate and the cursor are the by-value method's, and the postings that
 -- the cursor went past are counted

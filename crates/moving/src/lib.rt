@@ -5,7 +5,7 @@ ghost use lib.ListN.{length};
 ghost use Rattle.promises.specs.Slice.{old};
 ghost use Rattle.index.specs.Index.{Lent, lentSequences};
 ghost use Rattle.candidates.specs.Cursor.{CursorIn};
-ghost use Rattle.moving.specs.Advance.{raisedBy, examinedMore, Advanced};
+ghost use Rattle.moving.specs.Advance.{raisedBy, examinedMore, stepOn, Advanced};
 use candidates::cursor::Candidate;
 use candidates::cursor::OrientationCursor;
 use index_search::work::MappingWork;
@@ -41,6 +41,20 @@ fn examined_to(work: MappingWork, from: usize, to: usize) -> MappingWork
     }
 }
 
+// What moving on comes to: the candidate, its cursor, and the work with the postings that were gone past.
+fn counted(from: OrientationCursor, work: MappingWork, next: Candidate) -> Step
+    requires { ⌜ from .next ≤ next .cursor .next ⌝ }
+    ensures { λ r. ⌜ r ≡ stepOn from work next ⌝ }
+{
+    let moved = next.cursor;
+    let counts = examined_to(work, from.next, moved.next);
+    Step {
+        cursor: moved,
+        work: counts,
+        candidate: next,
+    }
+}
+
 // Moves the cursor on to its next candidate, and counts the postings that it went past as examined.
 pub fn advance(
     cursor: &mut OrientationCursor,
@@ -57,9 +71,10 @@ pub fn advance(
 {
     let from = *cursor;
     let next = from.next_candidate(bases, ends, ranked, ranks, positions, n);
-    *cursor = next.cursor;
-    *work = examined_to(*work, from.next, next.cursor.next);
-    next
+    let step = counted(from, *work, next);
+    *cursor = step.cursor;
+    *work = step.work;
+    step.candidate
 }
 
 // The same by value: who calls it needs no proof by hand.

@@ -44,15 +44,12 @@ use denote.Triple.Call.{calls-at}
 use denote.Triple.Clauses.{ensured, lasts}
 use denote.Triple.Table.{entered, cited}
 use denote.Triple.Walked.{says, needs, Stays, stay-none, stay-none-slice, walkOf, goes-none, goes-none-slice, Walks, ends-at, walked, walk-meets}
-use Rattle.index.specs.Index.{Lent, rankedSequences}
-use Rattle.candidates.specs.Cursor.{CursorIn}
 use Rattle.candidates.specs.declared.cursor.OrientationCursor.{OrientationCursor}
 use Rattle.candidates.specs.declared.cursor.Candidate.{Candidate}
 use Rattle.index_search.specs.declared.work.MappingWork.{MappingWork}
-use Rattle.moving.specs.Advance.{Advanced}
 use Rattle.moving.specs.declared.Step.{Step}
 use Rattle.moving.proofs.Lies.{lies-in, lies-out}
-use Rattle.moving.proofs.Along.{Along, along-vals, along-twice}
+use Rattle.moving.proofs.Along.{Lists, Asked, AdvancedAlong, Fitting, Along, along-vals, along-twice}
 use Rattle.candidates.proofs.cursor.OrientationCursor as C
 use Rattle.candidates.proofs.cursor.OrientationCursor.Laws as C′
 use Rattle.index_search.proofs.work.MappingWork as K
@@ -74,13 +71,6 @@ abbrev stayed : Stays (advanced.ended .signature .params) (advanced.ended .kept)
 stayed =
     (stay-none (λ _. C.the-row) yes, (stay-none (λ _. K.the-row) yes, (stay-none-slice (0 ∷ []) tt (plain (λ _. u8)) yes, (stay-none-slice (1 ∷ []) tt (plain (λ _. usize)) yes, (stay-none-slice (2 ∷ []) tt (plain (λ _. usize)) yes, (stay-none-slice (3 ∷ []) tt (plain (λ _. u64)) yes, (stay-none-slice (4 ∷ []) tt (plain (λ _. u64)) yes, (stay-none (λ _. usize) yes, tt))))))))
 
--- the sequences, ranks and positions that a cursor is moved along, and the read's length
-abbrev Lists : Type 0
-Lists = RefT (List ℕ) × (RefT (List ℕ) × (RefT (List ℕ) × (RefT (List ℕ) × (RefT (List ℕ) × (ℕ × Unit {0})))))
-
-abbrev Asked : Lists → OrientationCursor → Type 0
-Asked t h = Lent (now (t .0)) (now (t .1 .0)) (now (t .1 .1 .0)) × CursorIn (now (t .1 .1 .1 .0)) (now (t .1 .1 .1 .1 .0)) (length (now (t .1 .1 .0))) (h .next) (h .end)
-
 -- what `advance` binds of its parameters: the last cursor, the last work, and nothing of the others
 abbrev Last-values : Type 0
 Last-values = OrientationCursor × (MappingWork × (Unit {0} × (Unit {0} × (Unit {0} × (Unit {0} × (Unit {0} × (Unit {0} × Unit {0})))))))
@@ -94,16 +84,16 @@ Moves 𝓤 H A at-mem run = tripleOf 𝓤 H A advance.signature (advance.spec �
 
 module _ {M : Type 1} (𝓤 : URA M) (H : Heap 𝓤) (A : Atoms 𝓤) (W : Given 𝓤 H A) (at-mem : Memory → SProp 𝓤) (run : Routine → Fun 𝓤) (κs : Lfts 5) (qs : Shares 5) (h : OrientationCursor) (k : MappingWork) (t : Lists) where
   abbrev Lent-along : Fml
-  Lent-along = owns (Along κs) t (along-vals κs t)
+  Lent-along = owns (Along κs) t (along-vals t)
 
   abbrev Moved-to : Candidate → OrientationCursor → MappingWork → Type 0
-  Moved-to r c′ w′ = Advanced (rankedSequences (now (t .0)) (now (t .1 .0)) (now (t .1 .1 .0))) (t .1 .1 .1 .1 .1 .0) (now (t .1 .1 .1 .0)) (now (t .1 .1 .1 .1 .0)) h k r c′ w′
+  Moved-to r c′ w′ = AdvancedAlong t h k r c′ w′
 
   abbrev a : OrientationCursor × (MappingWork × Lists)
   a = (h, (k, t))
 
   abbrev vals : List Val × (List Val × (List Val × (List Val × (List Val × (List Val × (List Val × (List Val × Unit {0})))))))
-  vals = (C′.lowered h ∷ [], (K′.lowered k ∷ [], along-vals κs t))
+  vals = (C′.lowered h ∷ [], (K′.lowered k ∷ [], along-vals t))
 
   abbrev Post : Val → SProp 𝓤
   Post = walkOf 𝓤 H A advanced.ended stayed (advanced.clauses 𝓤 H A at-mem run) .post ((κs, qs, tt, a, vals), tt)
@@ -131,26 +121,22 @@ module _ {M : Type 1} (𝓤 : URA M) (H : Heap 𝓤) (A : Atoms 𝓤) (W : Given
     lent-as = (record { ptr = (l, 0); name = γ; now = h }, (record { ptr = (l′, 0); name = δ; now = k }, t))
 
     abbrev to-advance : Moves 𝓤 H A at-mem run .Ghost
-    to-advance = (((α ∷ [], (β ∷ [], κs)), (fullShare, (fullShare, qs)), tt, lent-as, (vptr l 0 ∷ [], (vptr l′ 0 ∷ [], along-vals κs t))), tt)
+    to-advance = (((α ∷ [], (β ∷ [], κs)), (fullShare, (fullShare, qs)), tt, lent-as, (vptr l 0 ∷ [], (vptr l′ 0 ∷ [], along-vals t))), tt)
 
     abbrev alive : SProp 𝓤
     alive = sep 𝓤 (A .lft (α ∷ []) fullShare) (sep 𝓤 (A .lft (β ∷ []) fullShare) (toks 𝓤 A 5 κs qs))
 
     abbrev owned-as : Fml
-    owned-as = owns (MutRef (named 0) (α ∷ []) C.the-row ∷ MutRef (named 0) (β ∷ []) K.the-row ∷ Along κs) lent-as (vptr l 0 ∷ [], (vptr l′ 0 ∷ [], along-vals κs t))
+    owned-as = owns (MutRef (named 0) (α ∷ []) C.the-row ∷ MutRef (named 0) (β ∷ []) K.the-row ∷ Along κs) lent-as (vptr l 0 ∷ [], (vptr l′ 0 ∷ [], along-vals t))
 
     goes : Asked t h → ent 𝓤 (sep 𝓤 alive (sem 𝓤 H A owned-as)) (Moves 𝓤 H A at-mem run .pre to-advance)
     goes asked = qed W (raw alive ∷ ‵ owned-as ∷ []) ∵ says ! asked $ done !
-
-  abbrev Fitting : Type 0
-  Fitting =
-      (length (now (t .0)) < 2 ^ 64) × ((length (now (t .1 .0)) < 2 ^ 64) × ((length (now (t .1 .1 .0)) < 2 ^ 64) × ((length (now (t .1 .1 .1 .0)) < 2 ^ 64) × ((length (now (t .1 .1 .1 .1 .0)) < 2 ^ 64) × ((t .1 .1 .1 .1 .1 .0 < 2 ^ 64) × Unit {0})))))
 
   module _ (Cs : Calls 𝓤 H) (Λ : Loops 𝓤 H) (fm : FmC 𝓤 H (W .laws) Cs) (known : Triple 𝓤 (Cs #advance) (Moves 𝓤 H A at-mem run)) where
     abbrev passed : List Val
     passed = C′.lowered h ∷ K′.lowered k ∷ only (slice-vals (t .0)) ∷ only (slice-vals (t .1 .0)) ∷ only (slice-vals (t .1 .1 .0)) ∷ only (slice-vals (t .1 .1 .1 .0)) ∷ only (slice-vals (t .1 .1 .1 .1 .0)) ∷ vint w64 (t .1 .1 .1 .1 .1 .0) ∷ []
 
-    walk : Fitting → Is C.the-row h (C′.lowered h ∷ []) → Is K.the-row k (K′.lowered k ∷ []) → Asked t h → ent 𝓤 (onEntry 𝓤 H A advanced.signature κs qs a vals) (WpFn 𝓤 H Cs Λ code.function passed Post)
+    walk : Fitting t → Is C.the-row h (C′.lowered h ∷ []) → Is K.the-row k (K′.lowered k ∷ []) → Asked t h → ent 𝓤 (onEntry 𝓤 H A advanced.signature κs qs a vals) (WpFn 𝓤 H Cs Λ code.function passed Post)
     walk fits g g′ pre =
         qed W (raw (toks 𝓤 A 5 κs qs) ∷ ‵ (owns (C.the-row ∷ K.the-row ∷ Along κs) a vals) ∷ []) ∵ enter ! Cs Λ code.function passed _ $
         alloc1 ! (λ l₀. alloc1 ! (λ l₁. alloc1 ! (λ l₂. alloc1 ! (λ l₃. alloc1 ! (λ l₄. alloc1 ! (λ l₅. alloc1 ! (λ l₆. alloc1 ! (λ l₇. alloc1 ! (λ l₈. alloc1 ! (λ l₉. alloc1 ! (λ l₁₀. alloc1 ! (λ l₁₁. alloc1 ! (λ l₁₂. alloc1 ! (λ l₁₃. alloc1 ! (λ l₁₄. alloc1 ! (λ l₁₅. alloc0 ! $ params1 ! $
