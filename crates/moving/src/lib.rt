@@ -32,10 +32,12 @@ fn examined_to(work: MappingWork, from: usize, to: usize) -> MappingWork
     requires { ⌜ from ≤ to ⌝ }
     ensures { λ r. ⌜ r ≡ examinedMore work (to - from) ⌝ }
 {
+    let passed = (to - from) as u64;
+    let examined = raised_by(work.examined, passed);
     MappingWork {
         lookups: work.lookups,
         hits: work.hits,
-        examined: raised_by(work.examined, (to - from) as u64),
+        examined,
         comparisons: work.comparisons,
         seen: work.seen,
     }

@@ -4,8 +4,8 @@ use borrow.Author.Needs.{needs}
 use Rattle.moving.proofs.examined_to.Statement.{statement}
 use Rattle.moving.proofs.examined_to.Tie as tie
 
-sub-raised-by : tie.Need-sub-raised-by
-sub-raised-by c = search needs
+sub-passed : tie.Need-sub-passed
+sub-passed c = search needs
 
 raised-by-requires : tie.Need-raised-by-requires
 raised-by-requires c κs = search needs
@@ -17,4 +17,4 @@ returns c =
     λ i. record { lookups = w .lookups; hits = w .hits; examined = e i; comparisons = w .comparisons; seen = w .seen }
 
 pub examined-to-spec : {M : Type 1} → statement M
-examined-to-spec = tie.close (tie.spec sub-raised-by raised-by-requires returns)
+examined-to-spec = tie.close (tie.spec sub-passed raised-by-requires returns)
