@@ -18,7 +18,7 @@ use libc::STDIN_FILENO;
 use postings::build;
 use record_arrays::map_array;
 
-fn put_answer(answer: MapAnswer) {
+pub fn put_answer(answer: MapAnswer) {
     match answer {
         MapAnswer::Refused(n) => put_number(b"refused ", n),
         MapAnswer::Mapped(m) => put_mapping(m),
@@ -35,7 +35,7 @@ fn field(column: &[u64], i: usize) -> u64 {
 }
 
 // The rows of three columns as records.
-fn records_of(keys: &[u64], ranks: &[u64], positions: &[u64]) -> [SeedPosting; 256]
+pub fn records_of(keys: &[u64], ranks: &[u64], positions: &[u64]) -> [SeedPosting; 256]
     ensures { λ r. ⌜ 256 ≡ length r ⌝ }
 {
     let none = SeedPosting {
