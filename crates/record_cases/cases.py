@@ -43,7 +43,7 @@ def mapped(read):
 
 def records(q, n, keys, ranks, positions, read):
     rows = (index(Q) + [(LARGEST,) * 3] * 256)[:n]
-    columns, entries = [[7] * 8, [7] * 8, [7] * 8], [999] * 20
+    columns, entries = [[7] * keys, [7] * ranks, [7] * positions], [999] * 20
     refusal = 1 if q < 1 else 5 if min(keys, ranks, positions) < n else 0
     if refusal == 0:
         for i, row in enumerate(rows):

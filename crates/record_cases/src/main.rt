@@ -65,20 +65,28 @@ fn run_cursor(next: usize, end: usize, offset: usize, n: usize, examined: u64) {
     put_step(step);
 }
 
-// Maps a read with the first n records of the index, and columns of these lengths that hold sevens.
-fn run_records(q: usize, n: usize, keys: usize, ranks: usize, positions: usize, read: &[u8]) {
+// Maps a read with the first n records of the index, and writes the answer and what is left in the buffers.
+fn run_lent(
+    entries: &mut [u64],
+    keys: &mut [u64],
+    ranks: &mut [u64],
+    positions: &mut [u64],
+    q: usize,
+    n: usize,
+    read: &[u8],
+) {
     let identifiers = [116u8];
     let identifier_ends = [1usize];
     let bases = [65u8, 67, 71, 84, 65, 67, 71, 84];
     let base_ends = [8usize];
     let marks = [0u8];
-    let mut built_keys = [0u64; 6];
-    let mut built_ranks = [0u64; 6];
-    let mut built_positions = [0u64; 6];
+    let mut ks = [0u64; 6];
+    let mut rs = [0u64; 6];
+    let mut os = [0u64; 6];
     build(
-        &mut built_keys,
-        &mut built_ranks,
-        &mut built_positions,
+        &mut ks,
+        &mut rs,
+        &mut os,
         &identifiers,
         &identifier_ends,
         &bases,
@@ -86,19 +94,12 @@ fn run_records(q: usize, n: usize, keys: usize, ranks: usize, positions: usize, 
         &marks,
         3,
     );
-    let records = records_of(&built_keys, &built_ranks, &built_positions);
-    let mut entries = [999u64; 20];
-    let mut ks = [7u64; 8];
-    let mut rs = [7u64; 8];
-    let mut os = [7u64; 8];
-    let k = at_most(keys, 8);
-    let r = at_most(ranks, 8);
-    let o = at_most(positions, 8);
+    let records = records_of(&ks, &rs, &os);
     let answer = map_array(
-        &mut entries,
-        &mut ks[..k],
-        &mut rs[..r],
-        &mut os[..o],
+        entries,
+        keys,
+        ranks,
+        positions,
         records,
         at_most(n, 256),
         &identifiers,
@@ -111,10 +112,30 @@ fn run_records(q: usize, n: usize, keys: usize, ranks: usize, positions: usize, 
         10,
     );
     put_answer(answer);
-    put_numbers(b"entries", &entries);
-    put_numbers(b"keys", &ks);
-    put_numbers(b"ranks", &rs);
-    put_numbers(b"positions", &os);
+    put_numbers(b"entries", entries);
+    put_numbers(b"keys", keys);
+    put_numbers(b"ranks", ranks);
+    put_numbers(b"positions", positions);
+}
+
+// Lends columns of these lengths that hold sevens.
+fn run_records(q: usize, n: usize, keys: usize, ranks: usize, positions: usize, read: &[u8]) {
+    let mut entries = [999u64; 20];
+    let mut ks = [7u64; 8];
+    let mut rs = [7u64; 8];
+    let mut os = [7u64; 8];
+    let k = at_most(keys, 8);
+    let r = at_most(ranks, 8);
+    let o = at_most(positions, 8);
+    run_lent(
+        &mut entries,
+        &mut ks[..k],
+        &mut rs[..r],
+        &mut os[..o],
+        q,
+        n,
+        read,
+    );
 }
 
 // A cursor over the postings of one key, over those of two, and with a count that is full.

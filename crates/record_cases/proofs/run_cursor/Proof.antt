@@ -1,65 +1,68 @@
+-- `record_cases::run_cursor` is safe and ends. What a cursor is moved along is written out: one target of capitals, and ranks that are 0.
+-- Assumes nothing.
+use mathlib.Core.Path.{refl}
+use mathlib.Core.List.{[], _∷_}
+use Prim.Native.Nat.{ℕ, zero, suc, _<_}
+use native.Mathlib.Omega.{arith}
+use lib.ListN.{getD}
+use Rattle.bases.specs.Base.{isCapital}
 use borrow.Author.Needs.{needs}
 use Rattle.record_cases.proofs.run_cursor.Statement.{statement}
 use Rattle.record_cases.proofs.run_cursor.Tie as tie
-use Rattle.record_cases.proofs.run_cursor.Reads as reads
-use Rattle.record_cases.proofs.run_cursor.Lts as lts
-use Rattle.case_maps.proofs.put.Reads as put-reads
-use Rattle.moving.proofs.advanced.Reads as advanced-reads
-use Rattle.record_cases.proofs.put_step.Reads as put-step-reads
 
--- src/main.rt:41:20
+-- every rank is below 1
+first-rank : (i : ℕ) → getD (0 ∷ 0 ∷ 0 ∷ 0 ∷ 0 ∷ 0 ∷ []) i 0 < 1
+first-rank zero = omega arith
+first-rank (suc zero) = omega arith
+first-rank (suc (suc zero)) = omega arith
+first-rank (suc (suc (suc zero))) = omega arith
+first-rank (suc (suc (suc (suc zero)))) = omega arith
+first-rank (suc (suc (suc (suc (suc zero))))) = omega arith
+first-rank (suc (suc (suc (suc (suc (suc i)))))) = omega arith
+
 slice-aggregate-put : tie.Need-slice-aggregate-put
 slice-aggregate-put c = search needs
 
--- src/main.rt:41:9
 put-requires : tie.Need-put-requires
 put-requires c κs = search needs
 
--- src/main.rt:41:9
 returns : tie.Need-returns
 returns c = search needs
 
--- src/main.rt:44:20
 slice-aggregate-put-2 : tie.Need-slice-aggregate-put-2
 slice-aggregate-put-2 c = search needs
 
--- src/main.rt:44:9
 put-requires-2 : tie.Need-put-requires-2
 put-requires-2 c κs = search needs
 
--- src/main.rt:44:9
 returns-2 : tie.Need-returns-2
 returns-2 c = search needs
 
--- src/main.rt:64:39
 slice-aggregate-advanced : tie.Need-slice-aggregate-advanced
 slice-aggregate-advanced c = search needs
 
--- src/main.rt:64:47
 slice-aggregate-advanced-2 : tie.Need-slice-aggregate-advanced-2
 slice-aggregate-advanced-2 c = search needs
 
--- src/main.rt:64:54
 slice-aggregate-advanced-3 : tie.Need-slice-aggregate-advanced-3
 slice-aggregate-advanced-3 c = search needs
 
--- src/main.rt:64:63
 slice-aggregate-advanced-4 : tie.Need-slice-aggregate-advanced-4
 slice-aggregate-advanced-4 c = search needs
 
--- src/main.rt:64:71
 slice-aggregate-advanced-5 : tie.Need-slice-aggregate-advanced-5
 slice-aggregate-advanced-5 c = search needs
 
--- src/main.rt:64:9
 advanced-requires : tie.Need-advanced-requires
-advanced-requires c κs = ?
+unfolding isCapital
+advanced-requires c κs = (
+  record { right = refl; total = refl; few = omega arith; places = refl; capitals = refl },
+  record { ordered = omega arith; in-ranks = omega arith; in-positions = omega arith; ranked = λ i l. first-rank i },
+)
 
--- src/main.rt:65:5
 put-step-requires : tie.Need-put-step-requires
 put-step-requires c κs = search needs
 
--- src/main.rt:39:1
 returns-3 : tie.Need-returns-3
 returns-3 c = search needs
 
