@@ -10,8 +10,8 @@ use moving::Step;
 use moving::advanced;
 use postings::build;
 use record_arrays::map_array;
-use record_calls::put_answer;
-use record_calls::records_of;
+use record_maps::put_answer;
+use record_maps::records_of;
 
 fn put_step(step: Step) {
     let candidate = step.candidate;

@@ -1,11 +1,11 @@
--- `record_calls::run_read` is safe and ends. The first bytes of an array are as many as are taken.
+-- `record_maps::run_read` is safe and ends. The first bytes of an array are as many as are taken.
 -- Assumes nothing.
 use native.Mathlib.Omega.{arith}
 use lib.Seq.{length-take-le}
 use mathlib.Core.Path.{sym}
 use borrow.Author.Needs.{needs}
-use Rattle.record_calls.proofs.run_read.Statement.{statement}
-use Rattle.record_calls.proofs.run_read.Tie as tie
+use Rattle.record_maps.proofs.run_read.Statement.{statement}
+use Rattle.record_maps.proofs.run_read.Tie as tie
 
 run-index-requires : tie.Need-run-index-requires
 run-index-requires c κs = search needs

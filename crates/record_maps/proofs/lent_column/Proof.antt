@@ -1,9 +1,9 @@
--- `record_calls::lent_column` is safe and ends. A store keeps the length.
+-- `record_maps::lent_column` is safe and ends. A store keeps the length.
 -- Assumes nothing.
 use lib.ListN.{length-set}
 use borrow.Author.Needs.{needs}
-use Rattle.record_calls.proofs.lent_column.Statement.{statement}
-use Rattle.record_calls.proofs.lent_column.Tie as tie
+use Rattle.record_maps.proofs.lent_column.Statement.{statement}
+use Rattle.record_maps.proofs.lent_column.Tie as tie
 
 mul-wrapping-add-u64 : tie.Need-mul-wrapping-add-u64
 mul-wrapping-add-u64 c = search needs

@@ -1,11 +1,11 @@
--- `record_calls::records_of` is safe and ends. The invariant: there are 256 records.
+-- `record_maps::records_of` is safe and ends. The invariant: there are 256 records.
 -- Assumes nothing.
 use mathlib.Core.Path.{_≡_}
 use Prim.Native.Nat.{_-_}
 use lib.ListN.{length, length-set}
 use borrow.Author.Needs.{needs}
-use Rattle.record_calls.proofs.records_of.Statement.{statement}
-use Rattle.record_calls.proofs.records_of.Tie as tie
+use Rattle.record_maps.proofs.records_of.Statement.{statement}
+use Rattle.record_maps.proofs.records_of.Tie as tie
 
 abbrev Inv-loop : tie.InvT-loop
 Inv-loop keys ranks positions records₀ i₀ records i = 256 ≡ length records

@@ -1,11 +1,11 @@
--- `record_calls::run_call` is safe and ends. The first numbers of a buffer are as many as are taken.
+-- `record_maps::run_call` is safe and ends. The first numbers of a buffer are as many as are taken.
 -- Assumes nothing.
 use native.Mathlib.Omega.{arith}
 use lib.Seq.{length-take-le}
 use mathlib.Core.Path.{sym}
 use borrow.Author.Needs.{needs}
-use Rattle.record_calls.proofs.run_call.Statement.{statement}
-use Rattle.record_calls.proofs.run_call.Tie as tie
+use Rattle.record_maps.proofs.run_call.Statement.{statement}
+use Rattle.record_maps.proofs.run_call.Tie as tie
 
 at-most-requires : tie.Need-at-most-requires
 at-most-requires c κs = search needs
