@@ -62,13 +62,16 @@ module _ (ps : List SeedPosting) (ks rs os : List ℕ) (k : Checked) (refusal : 
     where
       none-copied : (n : ℕ) → k .refusal ≡ suc n → k .rows ≡ 0
       none-copied n e = c .rows-are ∙ ap (λ m. ifPassed m (length ps) 0) e
+
       all-copied : k .refusal ≡ 0 → k .rows ≡ length ps
       all-copied e = c .rows-are ∙ ap (λ m. ifPassed m (length ps) 0) e
+
       all-room : k .refusal ≡ 0 → length ps ≤ room ks rs os
       all-room e =
           let z : (refusal orElse indexRoom (length ps) (room ks rs os)) ≡ 0 = sym (c .refusal-is) ∙ e in
           let u : unless (leb (length ps) (room ks rs os)) 5 ≡ 0 = none-second refusal _ z in
           leb-true _ _ (passed (leb (length ps) (room ks rs os)) 5 (λ f. omega (arith, f)) u)
+
       go : (m : ℕ) → k .refusal ≡ m → Fits (k .rows) ps ks rs os
       go zero e =
           let a = all-copied e in

@@ -187,7 +187,6 @@ module _ {M : Type 1} (𝓤 : URA M) (H : Heap 𝓤) (A : Atoms 𝓤) (W : Given
         use1 W (‵ (fat fullShare K′.mir (w .ptr .0) (w .ptr .1) (K′.lowered (k)))) (W .laws .raw-at fullShare K′.mir (w .ptr .0) (w .ptr .1) (K′.lowered (k))) $
         move ! (1 ∷ []) $
         facts ! K.the-row (Is K.the-row) (shows 𝓤 H A K.the-row) (k) (K′.lowered (k) ∷ []) (λ g′.
-        -- [wcell; wopen; wobs; wauth; ccell; copen; cobs; cauth; toks; along; _12; d12; _11; d11; _10; d10; _9; d9; _8; d8; _7; d7; _6; d6; _5; d5; _4; d4; _3; d3; _2; d2; _1; d1; _0; d0]
         assigns ! (of-opd ! (load ! (from ! (hop ! (look ! 32 refl) (stop !))) (look ! 4 refl))) (from ! (stop !)) (init ! 16 refl (LL.lawful C.the-type C′.the-laws 𝓤 H A W .typed h _ g .0)) $
         -- `next_candidate`
         move ! (9 ∷ []) $

@@ -66,10 +66,40 @@ use Rattle.record_arrays.proofs.map_array.Statement as stated
 use Rattle.record_arrays.proofs.map_array.Code as code
 
 abbrev stayed : Stays (entry.ended .signature .params) (entry.ended .kept)
-stayed =
-    (gave-slice (0 ∷ []) tt (plain (λ _. u64)), (gave-slice (1 ∷ []) tt (plain (λ _. u64)), (gave-slice (2 ∷ []) tt (plain (λ _. u64)), (gave-slice (3 ∷ []) tt (plain (λ _. u64)), (stay-none (λ _. Records) yes, (stay-none (λ _. usize) yes,
-    (stay-none-slice (4 ∷ []) tt (plain (λ _. u8)) yes, (stay-none-slice (5 ∷ []) tt (plain (λ _. usize)) yes, (stay-none-slice (6 ∷ []) tt (plain (λ _. u8)) yes, (stay-none-slice (7 ∷ []) tt (plain (λ _. usize)) yes, (stay-none-slice (8 ∷ []) tt (plain (λ _. u8)) yes,
-    (stay-none (λ _. usize) yes, (stay-none-slice (9 ∷ []) tt (plain (λ _. u8)) yes, (stay-none (λ _. u64) yes, tt))))))))))))))
+stayed = (
+  gave-slice (0 ∷ []) tt (plain (λ _. u64)),
+  (
+    gave-slice (1 ∷ []) tt (plain (λ _. u64)),
+    (
+      gave-slice (2 ∷ []) tt (plain (λ _. u64)),
+      (
+        gave-slice (3 ∷ []) tt (plain (λ _. u64)),
+        (
+          stay-none (λ _. Records) yes,
+          (
+            stay-none (λ _. usize) yes,
+            (
+              stay-none-slice (4 ∷ []) tt (plain (λ _. u8)) yes,
+              (
+                stay-none-slice (5 ∷ []) tt (plain (λ _. usize)) yes,
+                (
+                  stay-none-slice (6 ∷ []) tt (plain (λ _. u8)) yes,
+                  (
+                    stay-none-slice (7 ∷ []) tt (plain (λ _. usize)) yes,
+                    (
+                      stay-none-slice (8 ∷ []) tt (plain (λ _. u8)) yes,
+                      (stay-none (λ _. usize) yes, (stay-none-slice (9 ∷ []) tt (plain (λ _. u8)) yes, (stay-none (λ _. u64) yes, tt))),
+                    ),
+                  ),
+                ),
+              ),
+            ),
+          ),
+        ),
+      ),
+    ),
+  ),
+)
 
 -- what `map_records` binds of its parameters: the last lists of what it may write, and nothing of the others
 abbrev Last-slices : Type 0
@@ -317,9 +347,40 @@ module _ {M : Type 1} (𝓤 : URA M) (H : Heap 𝓤) (A : Atoms 𝓤) (W : Given
   map-array-walks : (Cs : Calls 𝓤 H) (Λ : Loops 𝓤 H) → FmC 𝓤 H (W .laws) Cs → Triple 𝓤 (Cs #map-records) (Maps 𝓤 H A at-mem run) → Walks 𝓤 H A entry.ended stayed (WpFn 𝓤 H Cs Λ code.function) (entry.clauses 𝓤 H A at-mem run)
   map-array-walks Cs Λ fm known = walked 𝓤 H A entry.ended stayed (entry.clauses 𝓤 H A at-mem run) (WpFn 𝓤 H Cs Λ code.function)
       (λ κs. (slice-vals, (slice-vals, (slice-vals, (slice-vals, (array-vals (LL.vals P.the-type P′.the-laws), (uint-vals w64, (slice-vals, (slice-vals, (slice-vals, (slice-vals, (slice-vals, (uint-vals w64, (slice-vals, (uint-vals w64, tt)))))))))))))))
-      (λ κs. (mut-slice-tells (named 0) (κs .0) u64, (mut-slice-tells (named 1) (κs .1 .0) u64, (mut-slice-tells (named 2) (κs .1 .1 .0) u64, (mut-slice-tells (named 3) (κs .1 .1 .1 .0) u64, (array-tells P.the-row (LL.vals P.the-type P′.the-laws) (LL.tells P.the-type P′.the-laws) 256, (uint-tells w64,
-      (shr-slice-tells (named 4) (κs .1 .1 .1 .1 .0) u8, (shr-slice-tells (named 5) (κs .1 .1 .1 .1 .1 .0) usize, (shr-slice-tells (named 6) (κs .1 .1 .1 .1 .1 .1 .0) u8, (shr-slice-tells (named 7) (κs .1 .1 .1 .1 .1 .1 .1 .0) usize, (shr-slice-tells (named 8) (κs .1 .1 .1 .1 .1 .1 .1 .1 .0) u8,
-      (uint-tells w64, (shr-slice-tells (named 9) (κs .1 .1 .1 .1 .1 .1 .1 .1 .1 .0) u8, (uint-tells w64, tt)))))))))))))))
+      (λ κs. (
+        mut-slice-tells (named 0) (κs .0) u64,
+        (
+          mut-slice-tells (named 1) (κs .1 .0) u64,
+          (
+            mut-slice-tells (named 2) (κs .1 .1 .0) u64,
+            (
+              mut-slice-tells (named 3) (κs .1 .1 .1 .0) u64,
+              (
+                array-tells P.the-row (LL.vals P.the-type P′.the-laws) (LL.tells P.the-type P′.the-laws) 256,
+                (
+                  uint-tells w64,
+                  (
+                    shr-slice-tells (named 4) (κs .1 .1 .1 .1 .0) u8,
+                    (
+                      shr-slice-tells (named 5) (κs .1 .1 .1 .1 .1 .0) usize,
+                      (
+                        shr-slice-tells (named 6) (κs .1 .1 .1 .1 .1 .1 .0) u8,
+                        (
+                          shr-slice-tells (named 7) (κs .1 .1 .1 .1 .1 .1 .1 .0) usize,
+                          (
+                            shr-slice-tells (named 8) (κs .1 .1 .1 .1 .1 .1 .1 .1 .0) u8,
+                            (uint-tells w64, (shr-slice-tells (named 9) (κs .1 .1 .1 .1 .1 .1 .1 .1 .1 .0) u8, (uint-tells w64, tt))),
+                          ),
+                        ),
+                      ),
+                    ),
+                  ),
+                ),
+              ),
+            ),
+          ),
+        ),
+      ))
       (λ κs qs bounds a g are. needs 𝓤 (a .1 .1 .1 .1 .1 .0 ≤ 256) _ (walk 𝓤 H A W at-mem run κs qs (a .0) (a .1 .0) (a .1 .1 .0) (a .1 .1 .1 .0) (a .1 .1 .1 .1 .0) (a .1 .1 .1 .1 .1 .0) (a .1 .1 .1 .1 .1 .1) Cs Λ fm known
       (are .0 .0 .1, (are .1 .0 .0 .1, (are .1 .1 .0 .0 .1, (are .1 .1 .1 .0 .0 .1, tt))))
       (are .1 .1 .1 .1 .1 .1 .0 .0 .1 .0, (are .1 .1 .1 .1 .1 .1 .1 .0 .0 .1 .0, (are .1 .1 .1 .1 .1 .1 .1 .1 .0 .0 .1 .0, (are .1 .1 .1 .1 .1 .1 .1 .1 .1 .0 .0 .1 .0, (are .1 .1 .1 .1 .1 .1 .1 .1 .1 .1 .0 .0 .1 .0, (are .1 .1 .1 .1 .1 .1 .1 .1 .1 .1 .1 .0 .1, (are .1 .1 .1 .1 .1 .1 .1 .1 .1 .1 .1 .1 .0 .0 .1 .0, (are .1 .1 .1 .1 .1 .1 .1 .1 .1 .1 .1 .1 .1 .0 .1, tt)))))))) (are .1 .1 .1 .1 .0) (are .1 .1 .1 .1 .1 .0 .1)))
@@ -327,10 +388,40 @@ module _ {M : Type 1} (𝓤 : URA M) (H : Heap 𝓤) (A : Atoms 𝓤) (W : Given
 map-array-meets : {M : Type 1} (𝓤 : URA M) (H : Heap 𝓤) (A : Atoms 𝓤) → Given 𝓤 H A → (at-mem : Memory → SProp 𝓤) (run : Routine → Fun 𝓤) (𝓣 : Tables 𝓤 H) → Triple 𝓤 (𝓣 .C #map-records) (Maps 𝓤 H A at-mem run)
     → Meets 𝓤 H A entry.signature (WpFn 𝓤 H (𝓣 .C) (𝓣 .Λ) code.function) (entry.spec 𝓤 H A at-mem run)
 map-array-meets 𝓤 H A W at-mem run 𝓣 known =
-    walk-meets 𝓤 H A entry.ended stayed W
-    (goes-gave-slice 𝓤 H A W 10 0 tt (plain (λ _. u64)), (goes-gave-slice 𝓤 H A W 10 1 tt (plain (λ _. u64)), (goes-gave-slice 𝓤 H A W 10 2 tt (plain (λ _. u64)), (goes-gave-slice 𝓤 H A W 10 3 tt (plain (λ _. u64)), (goes-none 𝓤 H A W 10 (λ _. Records) yes (λ κs x f. refl), (goes-none 𝓤 H A W 10 (λ _. usize) yes (λ κs x f. refl),
-    (goes-none-slice 𝓤 H A W 10 (4 ∷ []) tt (plain (λ _. u8)) yes, (goes-none-slice 𝓤 H A W 10 (5 ∷ []) tt (plain (λ _. usize)) yes, (goes-none-slice 𝓤 H A W 10 (6 ∷ []) tt (plain (λ _. u8)) yes, (goes-none-slice 𝓤 H A W 10 (7 ∷ []) tt (plain (λ _. usize)) yes, (goes-none-slice 𝓤 H A W 10 (8 ∷ []) tt (plain (λ _. u8)) yes,
-    (goes-none 𝓤 H A W 10 (λ _. usize) yes (λ κs x f. refl), (goes-none-slice 𝓤 H A W 10 (9 ∷ []) tt (plain (λ _. u8)) yes, (goes-none 𝓤 H A W 10 (λ _. u64) yes (λ κs x f. refl), tt))))))))))))))
+    walk-meets 𝓤 H A entry.ended stayed W (
+      goes-gave-slice 𝓤 H A W 10 0 tt (plain (λ _. u64)),
+      (
+        goes-gave-slice 𝓤 H A W 10 1 tt (plain (λ _. u64)),
+        (
+          goes-gave-slice 𝓤 H A W 10 2 tt (plain (λ _. u64)),
+          (
+            goes-gave-slice 𝓤 H A W 10 3 tt (plain (λ _. u64)),
+            (
+              goes-none 𝓤 H A W 10 (λ _. Records) yes (λ κs x f. refl),
+              (
+                goes-none 𝓤 H A W 10 (λ _. usize) yes (λ κs x f. refl),
+                (
+                  goes-none-slice 𝓤 H A W 10 (4 ∷ []) tt (plain (λ _. u8)) yes,
+                  (
+                    goes-none-slice 𝓤 H A W 10 (5 ∷ []) tt (plain (λ _. usize)) yes,
+                    (
+                      goes-none-slice 𝓤 H A W 10 (6 ∷ []) tt (plain (λ _. u8)) yes,
+                      (
+                        goes-none-slice 𝓤 H A W 10 (7 ∷ []) tt (plain (λ _. usize)) yes,
+                        (
+                          goes-none-slice 𝓤 H A W 10 (8 ∷ []) tt (plain (λ _. u8)) yes,
+                          (goes-none 𝓤 H A W 10 (λ _. usize) yes (λ κs x f. refl), (goes-none-slice 𝓤 H A W 10 (9 ∷ []) tt (plain (λ _. u8)) yes, (goes-none 𝓤 H A W 10 (λ _. u64) yes (λ κs x f. refl), tt))),
+                        ),
+                      ),
+                    ),
+                  ),
+                ),
+              ),
+            ),
+          ),
+        ),
+      ),
+    )
     (entry.clauses 𝓤 H A at-mem run) (WpFn 𝓤 H (𝓣 .C) (𝓣 .Λ) code.function) (WpFn-mono 𝓤 H (W .laws) 𝓣 code.function) (map-array-walks 𝓤 H A W at-mem run (𝓣 .C) (𝓣 .Λ) (fmOf 𝓤 H (W .laws) 𝓣) known)
 
 pub map-array-spec : {M : Type 1} → stated.statement M

@@ -72,10 +72,37 @@ use Rattle.records.proofs.map_records.Statement as stated
 use Rattle.records.proofs.map_records.Code as code
 
 abbrev stayed : Stays (entry.ended .signature .params) (entry.ended .kept)
-stayed =
-    (gave-slice (0 ∷ []) tt (plain (λ _. u64)), (gave-slice (1 ∷ []) tt (plain (λ _. u64)), (gave-slice (2 ∷ []) tt (plain (λ _. u64)), (gave-slice (3 ∷ []) tt (plain (λ _. u64)), (stay-none-slice (4 ∷ []) tt (plain (λ _. P.the-row)) yes,
-    (stay-none-slice (5 ∷ []) tt (plain (λ _. u8)) yes, (stay-none-slice (6 ∷ []) tt (plain (λ _. usize)) yes, (stay-none-slice (7 ∷ []) tt (plain (λ _. u8)) yes, (stay-none-slice (8 ∷ []) tt (plain (λ _. usize)) yes, (stay-none-slice (9 ∷ []) tt (plain (λ _. u8)) yes,
-    (stay-none (λ _. usize) yes, (stay-none-slice (10 ∷ []) tt (plain (λ _. u8)) yes, (stay-none (λ _. u64) yes, tt)))))))))))))
+stayed = (
+  gave-slice (0 ∷ []) tt (plain (λ _. u64)),
+  (
+    gave-slice (1 ∷ []) tt (plain (λ _. u64)),
+    (
+      gave-slice (2 ∷ []) tt (plain (λ _. u64)),
+      (
+        gave-slice (3 ∷ []) tt (plain (λ _. u64)),
+        (
+          stay-none-slice (4 ∷ []) tt (plain (λ _. P.the-row)) yes,
+          (
+            stay-none-slice (5 ∷ []) tt (plain (λ _. u8)) yes,
+            (
+              stay-none-slice (6 ∷ []) tt (plain (λ _. usize)) yes,
+              (
+                stay-none-slice (7 ∷ []) tt (plain (λ _. u8)) yes,
+                (
+                  stay-none-slice (8 ∷ []) tt (plain (λ _. usize)) yes,
+                  (
+                    stay-none-slice (9 ∷ []) tt (plain (λ _. u8)) yes,
+                    (stay-none (λ _. usize) yes, (stay-none-slice (10 ∷ []) tt (plain (λ _. u8)) yes, (stay-none (λ _. u64) yes, tt))),
+                  ),
+                ),
+              ),
+            ),
+          ),
+        ),
+      ),
+    ),
+  ),
+)
 
 -- what the callees bind of their parameters: the last lists of what they may write, and nothing of the others
 abbrev Last-columns : Type 0
@@ -483,9 +510,37 @@ module _ {M : Type 1} (𝓤 : URA M) (H : Heap 𝓤) (A : Atoms 𝓤) (W : Given
       → Walks 𝓤 H A entry.ended stayed (WpFn 𝓤 H Cs Λ code.function) (entry.clauses 𝓤 H A at-mem run)
   map-records-walks Cs Λ fm known-checks known-copies known-maps = walked 𝓤 H A entry.ended stayed (entry.clauses 𝓤 H A at-mem run) (WpFn 𝓤 H Cs Λ code.function)
       (λ κs. (slice-vals, (slice-vals, (slice-vals, (slice-vals, (slice-vals, (slice-vals, (slice-vals, (slice-vals, (slice-vals, (slice-vals, (uint-vals w64, (slice-vals, (uint-vals w64, tt))))))))))))))
-      (λ κs. (mut-slice-tells (named 0) (κs .0) u64, (mut-slice-tells (named 1) (κs .1 .0) u64, (mut-slice-tells (named 2) (κs .1 .1 .0) u64, (mut-slice-tells (named 3) (κs .1 .1 .1 .0) u64, (shr-slice-tells (named 4) (κs .1 .1 .1 .1 .0) P.the-row,
-      (shr-slice-tells (named 5) (κs .1 .1 .1 .1 .1 .0) u8, (shr-slice-tells (named 6) (κs .1 .1 .1 .1 .1 .1 .0) usize, (shr-slice-tells (named 7) (κs .1 .1 .1 .1 .1 .1 .1 .0) u8, (shr-slice-tells (named 8) (κs .1 .1 .1 .1 .1 .1 .1 .1 .0) usize, (shr-slice-tells (named 9) (κs .1 .1 .1 .1 .1 .1 .1 .1 .1 .0) u8,
-      (uint-tells w64, (shr-slice-tells (named 10) (κs .1 .1 .1 .1 .1 .1 .1 .1 .1 .1 .0) u8, (uint-tells w64, tt))))))))))))))
+      (λ κs. (
+        mut-slice-tells (named 0) (κs .0) u64,
+        (
+          mut-slice-tells (named 1) (κs .1 .0) u64,
+          (
+            mut-slice-tells (named 2) (κs .1 .1 .0) u64,
+            (
+              mut-slice-tells (named 3) (κs .1 .1 .1 .0) u64,
+              (
+                shr-slice-tells (named 4) (κs .1 .1 .1 .1 .0) P.the-row,
+                (
+                  shr-slice-tells (named 5) (κs .1 .1 .1 .1 .1 .0) u8,
+                  (
+                    shr-slice-tells (named 6) (κs .1 .1 .1 .1 .1 .1 .0) usize,
+                    (
+                      shr-slice-tells (named 7) (κs .1 .1 .1 .1 .1 .1 .1 .0) u8,
+                      (
+                        shr-slice-tells (named 8) (κs .1 .1 .1 .1 .1 .1 .1 .1 .0) usize,
+                        (
+                          shr-slice-tells (named 9) (κs .1 .1 .1 .1 .1 .1 .1 .1 .1 .0) u8,
+                          (uint-tells w64, (shr-slice-tells (named 10) (κs .1 .1 .1 .1 .1 .1 .1 .1 .1 .1 .0) u8, (uint-tells w64, tt))),
+                        ),
+                      ),
+                    ),
+                  ),
+                ),
+              ),
+            ),
+          ),
+        ),
+      ))
       (λ κs qs bounds a g are. via 𝓤 _ (fst∗ 𝓤 _ (emp 𝓤)) (walk 𝓤 H A W at-mem run κs qs (a .0) (a .1 .0) (a .1 .1 .0) (a .1 .1 .1 .0) (a .1 .1 .1 .1 .0) (a .1 .1 .1 .1 .1) Cs Λ fm known-checks known-copies known-maps
       (are .0 .0 .1, (are .1 .0 .0 .1, (are .1 .1 .0 .0 .1, (are .1 .1 .1 .0 .0 .1, (are .1 .1 .1 .1 .0 .0 .1, tt)))))
       (are .1 .1 .1 .1 .1 .0 .0 .1 .0, (are .1 .1 .1 .1 .1 .1 .0 .0 .1 .0, (are .1 .1 .1 .1 .1 .1 .1 .0 .0 .1 .0, (are .1 .1 .1 .1 .1 .1 .1 .1 .0 .0 .1 .0, (are .1 .1 .1 .1 .1 .1 .1 .1 .1 .0 .0 .1 .0, (are .1 .1 .1 .1 .1 .1 .1 .1 .1 .1 .0 .1, (are .1 .1 .1 .1 .1 .1 .1 .1 .1 .1 .1 .0 .0 .1 .0, (are .1 .1 .1 .1 .1 .1 .1 .1 .1 .1 .1 .1 .0 .1, tt))))))))))
@@ -493,10 +548,37 @@ module _ {M : Type 1} (𝓤 : URA M) (H : Heap 𝓤) (A : Atoms 𝓤) (W : Given
 map-records-meets : {M : Type 1} (𝓤 : URA M) (H : Heap 𝓤) (A : Atoms 𝓤) → Given 𝓤 H A → (at-mem : Memory → SProp 𝓤) (run : Routine → Fun 𝓤) (𝓣 : Tables 𝓤 H) → Triple 𝓤 (𝓣 .C #check-room) (Checks 𝓤 H A at-mem run) → Triple 𝓤 (𝓣 .C #copy-records) (Copies 𝓤 H A at-mem run) → Triple 𝓤 (𝓣 .C #map-copied) (Maps 𝓤 H A at-mem run)
     → Meets 𝓤 H A entry.signature (WpFn 𝓤 H (𝓣 .C) (𝓣 .Λ) code.function) (entry.spec 𝓤 H A at-mem run)
 map-records-meets 𝓤 H A W at-mem run 𝓣 known-checks known-copies known-maps =
-    walk-meets 𝓤 H A entry.ended stayed W
-    (goes-gave-slice 𝓤 H A W 11 0 tt (plain (λ _. u64)), (goes-gave-slice 𝓤 H A W 11 1 tt (plain (λ _. u64)), (goes-gave-slice 𝓤 H A W 11 2 tt (plain (λ _. u64)), (goes-gave-slice 𝓤 H A W 11 3 tt (plain (λ _. u64)), (goes-none-slice 𝓤 H A W 11 (4 ∷ []) tt (plain (λ _. P.the-row)) yes,
-    (goes-none-slice 𝓤 H A W 11 (5 ∷ []) tt (plain (λ _. u8)) yes, (goes-none-slice 𝓤 H A W 11 (6 ∷ []) tt (plain (λ _. usize)) yes, (goes-none-slice 𝓤 H A W 11 (7 ∷ []) tt (plain (λ _. u8)) yes, (goes-none-slice 𝓤 H A W 11 (8 ∷ []) tt (plain (λ _. usize)) yes, (goes-none-slice 𝓤 H A W 11 (9 ∷ []) tt (plain (λ _. u8)) yes,
-    (goes-none 𝓤 H A W 11 (λ _. usize) yes (λ κs x f. refl), (goes-none-slice 𝓤 H A W 11 (10 ∷ []) tt (plain (λ _. u8)) yes, (goes-none 𝓤 H A W 11 (λ _. u64) yes (λ κs x f. refl), tt)))))))))))))
+    walk-meets 𝓤 H A entry.ended stayed W (
+      goes-gave-slice 𝓤 H A W 11 0 tt (plain (λ _. u64)),
+      (
+        goes-gave-slice 𝓤 H A W 11 1 tt (plain (λ _. u64)),
+        (
+          goes-gave-slice 𝓤 H A W 11 2 tt (plain (λ _. u64)),
+          (
+            goes-gave-slice 𝓤 H A W 11 3 tt (plain (λ _. u64)),
+            (
+              goes-none-slice 𝓤 H A W 11 (4 ∷ []) tt (plain (λ _. P.the-row)) yes,
+              (
+                goes-none-slice 𝓤 H A W 11 (5 ∷ []) tt (plain (λ _. u8)) yes,
+                (
+                  goes-none-slice 𝓤 H A W 11 (6 ∷ []) tt (plain (λ _. usize)) yes,
+                  (
+                    goes-none-slice 𝓤 H A W 11 (7 ∷ []) tt (plain (λ _. u8)) yes,
+                    (
+                      goes-none-slice 𝓤 H A W 11 (8 ∷ []) tt (plain (λ _. usize)) yes,
+                      (
+                        goes-none-slice 𝓤 H A W 11 (9 ∷ []) tt (plain (λ _. u8)) yes,
+                        (goes-none 𝓤 H A W 11 (λ _. usize) yes (λ κs x f. refl), (goes-none-slice 𝓤 H A W 11 (10 ∷ []) tt (plain (λ _. u8)) yes, (goes-none 𝓤 H A W 11 (λ _. u64) yes (λ κs x f. refl), tt))),
+                      ),
+                    ),
+                  ),
+                ),
+              ),
+            ),
+          ),
+        ),
+      ),
+    )
     (entry.clauses 𝓤 H A at-mem run) (WpFn 𝓤 H (𝓣 .C) (𝓣 .Λ) code.function) (WpFn-mono 𝓤 H (W .laws) 𝓣 code.function) (map-records-walks 𝓤 H A W at-mem run (𝓣 .C) (𝓣 .Λ) (fmOf 𝓤 H (W .laws) 𝓣) known-checks known-copies known-maps)
 
 pub map-records-spec : {M : Type 1} → stated.statement M
