@@ -1,6 +1,4 @@
 // Records copied into columns.
-ghost use Prim.Native.Nat.{_<_, _≤_};
-ghost use lib.ListN.{length};
 ghost use Rattle.promises.specs.Slice.{old, new};
 ghost use Rattle.copying.specs.Records.{RowIn, RowSet, Fits, Copied};
 

@@ -1,5 +1,6 @@
 -- `records::checked_as` meets its contract: the refusal of the plan, no room, or room.
 -- Assumes nothing.
+use native.Mathlib.Omega.{arith}
 use Rattle.records.proofs.Entering.{refused-before, no-room, with-room}
 use Rattle.records.proofs.checked_as.Statement.{statement}
 use Rattle.records.proofs.checked_as.Tie as tie
@@ -8,10 +9,10 @@ returns : tie.Need-returns
 returns c = refused-before _ _ _ (c .if1 .taken)
 
 returns-2 : tie.Need-returns-2
-returns-2 c = no-room _ _ _ (c .before .if1 .left) (c .if2 .taken)
+returns-2 c = no-room _ _ _ (c .before .if1 .left) (omega (arith, c .if2 .taken))
 
 returns-3 : tie.Need-returns-3
-returns-3 c = with-room _ _ _ (c .before .if1 .left) (c .if2 .left)
+returns-3 c = with-room _ _ _ (c .before .if1 .left) (omega (arith, c .if2 .left))
 
 pub checked-as-spec : {M : Type 1} → statement M
 checked-as-spec = tie.close (tie.spec returns returns-2 returns-3)
