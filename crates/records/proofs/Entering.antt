@@ -2,52 +2,25 @@
 -- Assumes nothing.
 use mathlib.Core.Path.{_≡_, refl, sym, ap, _∙_, subst}
 use mathlib.Core.List.{List, [], _∷_, map, _++_}
-use Prim.Native.Nat.{ℕ, zero, suc, _<_, _≤_, min}
+use Prim.Native.Nat.{ℕ, zero, suc, _≤_}
 use native.Mathlib.Omega.{arith}
 use lib.ListN.{length, take, drop, length-map}
 use lib.Dec.{leb}
 use lib.Seq.{take-all, length-take-le}
-use borrow.Author.Tests.{lt-leb, le-leb, leb-true}
-use Rattle.promises.specs.Refusal.{unless, _orElse_, numberOf, Outcome, refused}
-use Rattle.promises.proofs.Refusing.{first-stands, none-second, passed, number-is}
+use borrow.Author.Tests.{leb-true}
+use Rattle.promises.specs.Refusal.{unless, _orElse_}
+use Rattle.promises.proofs.Refusing.{none-second, passed}
 use Rattle.catalogue.specs.Catalogue.{Catalogue}
-use Rattle.index.specs.Index.{planRefusal}
-use Rattle.planning.specs.Answers.{planOutcome, planned}
-use Rattle.planning.specs.declared.IndexPlan.{IndexPlan}
-use Rattle.answers.specs.Answer.{Leaves}
 use Rattle.answers.specs.declared.answer.MapAnswer.{MapAnswer}
 use Rattle.answers.specs.declared.answer.MapAnswer.the-variants as answers
 use Rattle.indexed_mapper.specs.Map.{MapsTo}
 use Rattle.copying.specs.Records.{keysIn, ranksIn, positionsIn, Fits, Copied}
-use Rattle.records.specs.Entry.{indexRoom, copyRefusal, ifPassed, RoomChecked, CheckedAs, RowsIn, MapsBy, MapsCopied, MapsFields, MapsRecords, room}
+use Rattle.record_room.specs.Room.{indexRoom, ifPassed, RoomChecked, CheckedAs, room}
+use Rattle.records.specs.Entry.{RowsIn, MapsBy, MapsCopied, MapsFields, MapsRecords}
 use Rattle.copying.specs.declared.SeedPosting.{SeedPosting}
 use Rattle.copying.proofs.Filling.{length-filled}
-use Rattle.records.specs.declared.Checked.{Checked}
-
--- ---- the check
-
--- where a check refuses, what stands is taken
-pub stays-so : {A : Type 0} (n : ℕ) (a b : A) → (n ≡ 0 → ⊥) → ifPassed n a b ≡ b
-stays-so zero a b ne = absurd (ne refl)
-stays-so (suc n) a b ne = refl
-
-module _ (refusal records entries : ℕ) where
-  pub refused-before : (refusal ≡ 0 → ⊥) → RoomChecked refusal records entries (record { refusal = refusal; rows = 0 })
-  refused-before ne = record { refusal-is = first-stands refusal _ ne; rows-are = sym (stays-so refusal records 0 ne) }
-
-  pub no-room : refusal ≡ 0 → entries < records → RoomChecked refusal records entries (record { refusal = 5; rows = 0 })
-  no-room e l = record { refusal-is = rw e (rw (lt-leb records entries l) refl); rows-are = refl }
-
-  pub with-room : refusal ≡ 0 → records ≤ entries → RoomChecked refusal records entries (record { refusal = 0; rows = records })
-  with-room e l = record { refusal-is = rw e (rw (le-leb records entries l) refl); rows-are = refl }
-
--- the refusal of a plan is the one that it tells
-pub told : (q : ℕ) (c : Catalogue) (p : IndexPlan) (n : ℕ) → planOutcome p ≡ planned q c → n ≡ numberOf (planOutcome p) → n ≡ planRefusal q c
-told q c p n e m = m ∙ ap numberOf e ∙ number-is (planRefusal q c) _
-
--- a check whose numbers are known by other names
-pub checked-for : (refusal refusal′ records entries entries′ : ℕ) (r : Checked) → refusal ≡ refusal′ → entries ≡ entries′ → RoomChecked refusal records entries r → RoomChecked refusal′ records entries′ r
-checked-for refusal refusal′ records entries entries′ r e l k = subst (λ n. RoomChecked n records entries′ r) e (subst (λ m. RoomChecked refusal records m r) l k)
+use Rattle.record_room.specs.declared.Checked.{Checked}
+use Rattle.record_room.proofs.Checking.{stays-so}
 
 -- ---- the rows
 

@@ -43,21 +43,22 @@ use denote.Triple.Walked.{says, Stays, gave-slice, stay-none-slice, stay-none, w
 use denote.Exit.{yes}
 use Rattle.answers.specs.declared.answer.MapAnswer.{MapAnswer}
 use Rattle.copying.specs.Records.{Fits, Copied}
-use Rattle.records.specs.Entry.{CheckedAs, RowsIn, MapsCopied, MapsRecords}
+use Rattle.record_room.specs.Room.{CheckedAs}
+use Rattle.records.specs.Entry.{RowsIn, MapsCopied, MapsRecords}
 use Rattle.copying.specs.declared.SeedPosting.{SeedPosting}
-use Rattle.records.specs.declared.Checked.{Checked}
+use Rattle.record_room.specs.declared.Checked.{Checked}
 use Rattle.copying.proofs.Again.{LentAgain, lends-again, comes-back}
 use Rattle.records.proofs.Entering.{copy-fits, rows-in, records-mapped}
 use Rattle.records.proofs.Lent.{Given-lists, Spelled, catalogue-of, seed-of, read-of, limit-of, Lent, lent-vals, lent-twice}
 use Rattle.copying.proofs.SeedPosting as P
-use Rattle.records.proofs.Checked as N
-use Rattle.records.proofs.Checked.Laws as N′
+use Rattle.record_room.proofs.Checked as N
+use Rattle.record_room.proofs.Checked.Laws as N′
 use Rattle.answers.proofs.answer.MapAnswer as E
 use Rattle.answers.proofs.answer.MapAnswer.Laws as E′
-use Rattle.records.proofs.check_room as checks
-use Rattle.records.proofs.check_room.Symbol as checks-def
-use Rattle.records.proofs.check_room.Symbol.{name as #check-room}
-use Rattle.records.proofs.check_room.Met as checks-thm
+use Rattle.record_room.proofs.check_room as checks
+use Rattle.record_room.proofs.check_room.Symbol as checks-def
+use Rattle.record_room.proofs.check_room.Symbol.{name as #check-room}
+use Rattle.record_room.proofs.check_room.Met as checks-thm
 use Rattle.copying.proofs.copy_records as copies
 use Rattle.copying.proofs.copy_records.Symbol as copies-def
 use Rattle.copying.proofs.copy_records.Symbol.{name as #copy-records}
@@ -587,6 +588,6 @@ map-records-spec 𝓤 H 𝓜 𝓖 𝓡 =
     entered 𝓤 H (tripleOf 𝓤 H (𝓖 .A) entry.signature (entry.spec 𝓤 H (𝓖 .A) (𝓜 .mem) (𝓡 .run)))
     (tables 𝓤 H 𝓜 𝓡 code.env .C) (tables 𝓤 H 𝓜 𝓡 code.env .Λ) #map-records code.function (code.unfolded 𝓤 H 𝓜 𝓡)
     (map-records-meets 𝓤 H (𝓖 .A) (givenOf 𝓤 H 𝓜 𝓖) (𝓜 .mem) (𝓡 .run) (tablesOf 𝓤 H 𝓜 (tables 𝓤 H 𝓜 𝓡 code.env))
-    (cited 𝓤 H (Checks 𝓤 H (𝓖 .A) (𝓜 .mem) (𝓡 .run)) 𝓜 𝓡 code.env #check-room checks-def.routine code.calls-records·check-room (checks-thm.met 𝓤 H 𝓜 𝓖 𝓡))
+    (cited 𝓤 H (Checks 𝓤 H (𝓖 .A) (𝓜 .mem) (𝓡 .run)) 𝓜 𝓡 code.env #check-room checks-def.routine code.calls-record-room·check-room (checks-thm.met 𝓤 H 𝓜 𝓖 𝓡))
     (cited 𝓤 H (Copies 𝓤 H (𝓖 .A) (𝓜 .mem) (𝓡 .run)) 𝓜 𝓡 code.env #copy-records copies-def.routine code.calls-copying·copy-records (copies-thm.met 𝓤 H 𝓜 𝓖 𝓡))
     (cited 𝓤 H (Maps 𝓤 H (𝓖 .A) (𝓜 .mem) (𝓡 .run)) 𝓜 𝓡 code.env #map-copied maps-def.routine code.calls-records·map-copied (maps-thm.met 𝓤 H 𝓜 𝓖 𝓡)))

@@ -1,8 +1,8 @@
--- `records::shorter` meets its contract: the lesser of two.
+-- `record_room::shorter` meets its contract: the lesser of two.
 -- Assumes nothing.
 use native.Mathlib.Omega.{arith}
-use Rattle.records.proofs.shorter.Statement.{statement}
-use Rattle.records.proofs.shorter.Tie as tie
+use Rattle.record_room.proofs.shorter.Statement.{statement}
+use Rattle.record_room.proofs.shorter.Tie as tie
 
 returns : tie.Need-returns
 returns c = omega arith

@@ -1,9 +1,9 @@
--- `records::checked_as` meets its contract: the refusal of the plan, no room, or room.
+-- `record_room::checked_as` meets its contract: the refusal of the plan, no room, or room.
 -- Assumes nothing.
 use native.Mathlib.Omega.{arith}
-use Rattle.records.proofs.Entering.{refused-before, no-room, with-room}
-use Rattle.records.proofs.checked_as.Statement.{statement}
-use Rattle.records.proofs.checked_as.Tie as tie
+use Rattle.record_room.proofs.Checking.{refused-before, no-room, with-room}
+use Rattle.record_room.proofs.checked_as.Statement.{statement}
+use Rattle.record_room.proofs.checked_as.Tie as tie
 
 returns : tie.Need-returns
 returns c = refused-before _ _ _ (c .if1 .taken)

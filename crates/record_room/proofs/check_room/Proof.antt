@@ -1,11 +1,11 @@
--- `records::check_room` meets its contract: the refusal of the plan, and the room of the shortest column.
+-- `record_room::check_room` meets its contract: the refusal of the plan, and the room of the shortest column.
 -- Assumes nothing.
 use mathlib.Core.Path.{_∙_, ap}
 use Prim.Native.Nat.{min}
-use Rattle.records.proofs.Entering.{told, checked-for}
+use Rattle.record_room.proofs.Checking.{told, checked-for}
 use borrow.Author.Needs.{needs}
-use Rattle.records.proofs.check_room.Statement.{statement}
-use Rattle.records.proofs.check_room.Tie as tie
+use Rattle.record_room.proofs.check_room.Statement.{statement}
+use Rattle.record_room.proofs.check_room.Tie as tie
 
 shorter-requires : tie.Need-shorter-requires
 shorter-requires c κs = search needs
