@@ -33,5 +33,6 @@ pub record RoomChecked (refusal records entries : ℕ) (r : Checked) : Type 0 wh
   pub refusal-is : r .refusal ≡ (refusal orElse indexRoom records entries)
   pub rows-are : r .rows ≡ ifPassed (r .refusal) records 0
 
+-- behind the tests of the seed length and the catalogue
 abbrev pub CheckedAs : ℕ → Catalogue → ℕ → ℕ → Checked → Type 0
 CheckedAs q c records entries r = RoomChecked (planRefusal q c) records entries r

@@ -44,5 +44,6 @@ pub record MapsFields (refusal q : ℕ) (c : Catalogue) (ps : List SeedPosting) 
   pub ranks : rs′ ≡ columnAfter refusal (ranksIn ps) rs
   pub positions : os′ ≡ columnAfter refusal (positionsIn ps) os
 
+-- the same by the refusal of this call's own check: 1 to 5
 abbrev pub MapsRecords : ℕ → Catalogue → List SeedPosting → List ℕ → ℕ → MapAnswer → List ℕ → List ℕ → List ℕ → List ℕ → List ℕ → List ℕ → List ℕ → List ℕ → Type 0
 MapsRecords q c ps read limit r es ks rs os es′ ks′ rs′ os′ = MapsFields (copyRefusal q c (length ps) (room ks rs os)) q c ps read limit r es ks rs os es′ ks′ rs′ os′
