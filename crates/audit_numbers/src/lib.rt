@@ -3,10 +3,10 @@ ghost use Prim.Native.Nat.{_+_, _*_, _<_, _≤_};
 ghost use mathlib.Core.Path.{_≡_};
 ghost use lib.ListN.{length};
 ghost use Rattle.promises.specs.Slice.{old};
-use audit_rules::settings::AuditInputMode;
+use audit_codes::mode_of;
+use audit_codes::role_of;
 use audit_rules::settings::AuditState;
 use audit_rules::settings::LastOrdinal;
-use audit_rules::settings::MateRole;
 use audit_rules::settings::Settings;
 use case_calls::number;
 use case_maps::at_most;
@@ -63,23 +63,6 @@ pub fn end_count(s: &[u8], from: usize, n: usize) -> usize
 
 pub fn is_set(b: u8) -> bool {
     b == 1
-}
-
-fn mode_of(b: u8) -> AuditInputMode {
-    if b == 1 {
-        return AuditInputMode::PairedEnd;
-    }
-    AuditInputMode::SingleEnd
-}
-
-fn role_of(b: u8) -> MateRole {
-    if b == 0 {
-        return MateRole::S;
-    }
-    if b == 1 {
-        return MateRole::R1;
-    }
-    MateRole::R2
 }
 
 // Mode, remap, floor, limit.

@@ -17,7 +17,8 @@ use Rattle.audit_rules.specs.Fragment.{Fragment, fragmentRefusal}
 use Rattle.audit_rules.specs.Calls.{mateOf}
 use Rattle.audit_rules.specs.Sheet.{finishRefusal}
 use Rattle.stream.specs.Operands.{Parsed, parsed, wrong, _followedBy_, bytesIn, littleEndian}
-use Rattle.stream.specs.Commands.{provided, isMark, isSet, roleOf, settingsOf, settingsIn, isNameByte, withTarget, targetRight, targetIn, qualityCount, readRight, readOperands, readIn, readsIn, fragmentIn, maxStreamReads}
+use Rattle.audit_codes.specs.Codes.{isMark, isSet, roleOf}
+use Rattle.stream.specs.Commands.{provided, settingsOf, settingsIn, isNameByte, withTarget, targetRight, targetIn, qualityCount, readRight, readOperands, readIn, readsIn, fragmentIn, maxStreamReads}
 use Rattle.catch_rules.specs.Job.{noTargets, Stage, beginning, supplying, running, Step, ends, goes, refuses, whenRead, audited, finished, begin, run, opened, supply, command, lentOf, streamEntries, onward, written, still}
 
 -- ---- what is left behind something that was read is no longer

@@ -11,21 +11,15 @@ use lib.Seq.{getD-take, getD-drop, drop-cons, drop-drop}
 use borrow.Author.Tests.{leb-true, eq-eqb, ne-eqb}
 use Rattle.lists.specs.Cut.{window}
 use Rattle.lists.proofs.Cases.{by-test, and-true}
-use Rattle.audit_rules.specs.declared.settings.MateRole.the-variants as roles
 use Rattle.audit_rules.specs.Observing.{MateRead}
 use Rattle.audit_rules.specs.Calls.{mateOf}
 use Rattle.fragment_stream.specs.declared.ReadPlace.{ReadPlace}
+use Rattle.audit_codes.specs.Codes.{isMark, isSet, roleOf}
 use Rattle.stream.specs.Operands.{Parsed, parsed, wrong, _followedBy_, bytesIn, littleEndian}
-use Rattle.stream.specs.Commands.{maxStreamRead, provided, isMark, isSet, roleOf, readFits, qualitiesOf, readOperands, readIn}
+use Rattle.stream.specs.Commands.{maxStreamRead, provided, readFits, qualitiesOf, readOperands, readIn}
 use Rattle.stream.specs.Telling.{Refused, Short}
 use Rattle.fragment_stream.specs.Telling.{Placed, mateAt, longestRead}
 use Rattle.stream.proofs.Pieces.{here, not-wrong, drop-take, granted, denied, bytes-in, bytes-lacking, bytes-were, behind-parsed, behind-wrong, twoIn, two-wrong, two-lacking, two-in}
-
--- the last role by its number
-pub second : (n : ℕ) → (n ≡ 0 → ⊥) → (n ≡ 1 → ⊥) → roles.R2 ≡ roleOf n
-second zero h k = absurd (h refl)
-second (suc zero) h k = absurd (k refl)
-second (suc (suc n)) h k = refl
 
 -- what follows the bases and the qualities
 abbrev next : ℕ → ℕ → ℕ → List ℕ → List ℕ → List ℕ → Parsed MateRead

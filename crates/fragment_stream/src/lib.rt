@@ -3,8 +3,9 @@ ghost use lib.ListN.{length};
 ghost use Rattle.promises.specs.Slice.{old};
 ghost use mathlib.Core.Path.{_≡_};
 ghost use Prim.Native.Nat.{_≤_};
-ghost use Rattle.stream.specs.Commands.{roleOf, readFits, qualitiesOf};
+ghost use Rattle.stream.specs.Commands.{readFits, qualitiesOf};
 ghost use Rattle.fragment_stream.specs.Telling.{ReadTold, PairTold, ReadsTold, FragmentTold};
+use audit_codes::role_of;
 use audit_rules::settings::MateRole;
 use stream::little_endian;
 
@@ -36,18 +37,6 @@ pub enum FragmentRead {
     Read(FragmentHead),
     Wrong,
     More,
-}
-
-fn role_of(number: u8) -> MateRole
-    ensures { λ r. ⌜ r ≡ roleOf number ⌝ }
-{
-    if number == 0 {
-        return MateRole::S;
-    }
-    if number == 1 {
-        return MateRole::R1;
-    }
-    MateRole::R2
 }
 
 // Whether a read has a role, a mark and no more bases than 4,096.

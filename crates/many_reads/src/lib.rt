@@ -32,8 +32,8 @@ fn check_reads(reads: &[u8], read_ends: &[usize], rows: usize, limit: u64) -> u6
     0
 }
 
-// The entries that each of n reads can have.
-fn share_of(entries: usize, n: usize) -> usize
+// The entries that each of n can have.
+pub fn share_of(entries: usize, n: usize) -> usize
     ensures { λ r. ⌜ (r * n ≤ entries) × ((n ≡ 0 → ⊥) → r ≡ entries / n) ⌝ }
 {
     if n == 0 {

@@ -10,17 +10,12 @@ use lib.Seq.{getD-take}
 use borrow.Author.Tests.{le-leb, lt-leb}
 use Rattle.lists.specs.Cut.{window}
 use Rattle.audit_rules.specs.declared.settings.AuditInputMode.{AuditInputMode}
-use Rattle.audit_rules.specs.declared.settings.AuditInputMode.the-variants as modes
 use Rattle.audit_rules.specs.declared.settings.Settings.{Settings}
+use Rattle.audit_codes.specs.Codes.{isMark, isSet, modeOf}
 use Rattle.stream.specs.Operands.{Parsed, parsed, bytesIn, littleEndian}
-use Rattle.stream.specs.Commands.{isMark, isSet, modeOf, provided, settingsOf, settingsIn}
+use Rattle.stream.specs.Commands.{provided, settingsOf, settingsIn}
 use Rattle.stream.specs.Telling.{Read, Refused, Short}
 use Rattle.stream.proofs.Pieces.{drop-take, granted, denied, bytes-in, bytes-lacking, behind-parsed, behind-wrong}
-
--- pairs by their number
-pub paired : (n : ℕ) → (n ≡ 0 → ⊥) → modes.PairedEnd ≡ modeOf n
-paired zero h = absurd (h refl)
-paired (suc n) h = refl
 
 -- settings by their parts
 abbrev settings : AuditInputMode → ℕ → ℕ → ℕ → Settings

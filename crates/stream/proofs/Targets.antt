@@ -14,7 +14,8 @@ use Rattle.lists.proofs.Cases.{and-true}
 use Rattle.lists.specs.Filter.{every}
 use Rattle.catalogue.specs.Catalogue.{Catalogue}
 use Rattle.stream.specs.Operands.{Parsed, bytesIn, littleEndian}
-use Rattle.stream.specs.Commands.{maxStreamTargets, maxStreamBases, isMark, provided, isNameByte, withTarget, targetFits, targetIn}
+use Rattle.audit_codes.specs.Codes.{isMark}
+use Rattle.stream.specs.Commands.{maxStreamTargets, maxStreamBases, provided, isNameByte, withTarget, targetFits, targetIn}
 use Rattle.stream.specs.Telling.{Read, Refused, Short, longestTarget, TargetWithin}
 use Rattle.stream.proofs.Pieces.{here, drop-take, granted, denied, bytes-in, bytes-lacking, behind-parsed, behind-wrong, twoIn, two-wrong, two-lacking, two-in}
 

@@ -6,14 +6,11 @@ use lib.ListN.{length, getD, take, drop}
 use lib.Dec.{eqb, leb, ltb}
 use Rattle.lists.specs.Filter.{every}
 use Rattle.catalogue.specs.Catalogue.{Catalogue}
-use Rattle.audit_rules.specs.declared.settings.AuditInputMode.{AuditInputMode}
-use Rattle.audit_rules.specs.declared.settings.AuditInputMode.the-variants as modes
-use Rattle.audit_rules.specs.declared.settings.MateRole.{MateRole}
-use Rattle.audit_rules.specs.declared.settings.MateRole.the-variants as roles
 use Rattle.audit_rules.specs.declared.settings.Settings.{Settings}
 use Rattle.audit_rules.specs.Observing.{MateRead}
 use Rattle.audit_rules.specs.Fragment.{Fragment}
 use Rattle.audit_rules.specs.Calls.{mateOf}
+use Rattle.audit_codes.specs.Codes.{modeOf, roleOf, isRole, isMark, isSet}
 use Rattle.stream.specs.Operands.{Parsed, parsed, wrong, _followedBy_, bytesIn, littleEndian}
 
 -- ---- bounds
@@ -30,24 +27,7 @@ maxStreamRead = 4096
 abbrev pub maxStreamReads : ℕ
 maxStreamReads = 2
 
--- ---- marks
-
-abbrev pub modeOf : ℕ → AuditInputMode
-modeOf zero = modes.SingleEnd
-modeOf (suc n) = modes.PairedEnd
-
-abbrev pub roleOf : ℕ → MateRole
-roleOf zero = roles.S
-roleOf (suc zero) = roles.R1
-roleOf (suc (suc n)) = roles.R2
-
--- a mark of 0 or 1
-abbrev pub isMark : ℕ → Bool
-isMark n = leb n 1
-
--- what a mark of 1 says
-abbrev pub isSet : ℕ → Bool
-isSet n = eqb n 1
+-- ---- tests
 
 -- something, where a test passes
 abbrev pub provided : {A : Type 0} → Bool → A → List ℕ → Parsed A
@@ -104,7 +84,7 @@ qualityCount h = qualitiesOf (getD h 1 0) (littleEndian (drop 2 h))
 
 -- a role, a mark, and no more bases than 4,096
 abbrev pub readFits : ℕ → ℕ → ℕ → Bool
-readFits role mark count = leb role 2 && isMark mark && leb count maxStreamRead
+readFits role mark count = isRole role && isMark mark && leb count maxStreamRead
 
 abbrev pub readRight : List ℕ → Bool
 readRight h = readFits (getD h 0 0) (getD h 1 0) (littleEndian (drop 2 h))

@@ -5,9 +5,9 @@ ghost use lib.ListN.{length};
 ghost use Rattle.lists.specs.Filter.{every};
 ghost use Rattle.promises.specs.Slice.{old};
 ghost use Rattle.stream.specs.Operands.{littleEndian};
-ghost use Rattle.stream.specs.Commands.{modeOf, isNameByte, targetFits};
+ghost use Rattle.stream.specs.Commands.{isNameByte, targetFits};
 ghost use Rattle.stream.specs.Telling.{SettingsTold, TargetsTold};
-use audit_rules::settings::AuditInputMode;
+use audit_codes::mode_of;
 use audit_rules::settings::Settings;
 
 pub enum SettingsRead {
@@ -42,15 +42,6 @@ pub fn little_endian(bytes: &[u8]) -> u64
         number = number * 256 + bytes[n - i] as u64;
     }
     number
-}
-
-fn mode_of(number: u8) -> AuditInputMode
-    ensures { λ r. ⌜ r ≡ modeOf number ⌝ }
-{
-    if number == 0 {
-        return AuditInputMode::SingleEnd;
-    }
-    AuditInputMode::PairedEnd
 }
 
 // Settings, behind 01.

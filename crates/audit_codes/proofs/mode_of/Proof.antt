@@ -1,10 +1,10 @@
--- `stream::mode_of` meets its contract: a number that is not 0 stands for pairs.
+-- `audit_codes::mode_of` meets its contract: a number that is not 0 stands for pairs.
 -- Assumes nothing.
 use native.Mathlib.Omega.{arith}
-use Rattle.stream.proofs.Settings.{paired}
+use Rattle.audit_codes.proofs.Codes.{paired}
 use borrow.Author.Needs.{needs}
-use Rattle.stream.proofs.mode_of.Statement.{statement}
-use Rattle.stream.proofs.mode_of.Tie as tie
+use Rattle.audit_codes.proofs.mode_of.Statement.{statement}
+use Rattle.audit_codes.proofs.mode_of.Tie as tie
 
 returns : tie.Need-returns
 returns c = search needs

@@ -1,10 +1,10 @@
--- `fragment_stream::role_of` meets its contract: a number that is neither 0 nor 1 stands for R2.
+-- `audit_codes::role_of` meets its contract: a number that is neither 0 nor 1 stands for R2.
 -- Assumes nothing.
 use native.Mathlib.Omega.{arith}
-use Rattle.fragment_stream.proofs.Mates.{second}
+use Rattle.audit_codes.proofs.Codes.{second}
 use borrow.Author.Needs.{needs}
-use Rattle.fragment_stream.proofs.role_of.Statement.{statement}
-use Rattle.fragment_stream.proofs.role_of.Tie as tie
+use Rattle.audit_codes.proofs.role_of.Statement.{statement}
+use Rattle.audit_codes.proofs.role_of.Tie as tie
 
 returns : tie.Need-returns
 returns c = search needs

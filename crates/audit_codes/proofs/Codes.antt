@@ -1,0 +1,16 @@
+-- Numbers of the last mode and of the last role.
+-- Assumes nothing.
+use mathlib.Core.Path.{_≡_, refl}
+use Prim.Native.Nat.{ℕ, zero, suc}
+use Rattle.audit_rules.specs.declared.settings.AuditInputMode.the-variants as modes
+use Rattle.audit_rules.specs.declared.settings.MateRole.the-variants as roles
+use Rattle.audit_codes.specs.Codes.{modeOf, roleOf}
+
+pub paired : (n : ℕ) → (n ≡ 0 → ⊥) → modes.PairedEnd ≡ modeOf n
+paired zero h = absurd (h refl)
+paired (suc n) h = refl
+
+pub second : (n : ℕ) → (n ≡ 0 → ⊥) → (n ≡ 1 → ⊥) → roles.R2 ≡ roleOf n
+second zero h k = absurd (h refl)
+second (suc zero) h k = absurd (k refl)
+second (suc (suc n)) h k = refl

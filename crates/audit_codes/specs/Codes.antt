@@ -1,0 +1,31 @@
+-- Modes, roles and flags by their numbers (REFERENCE.md, "Audit").
+use mathlib.Core.Bool.{Bool}
+use Prim.Native.Nat.{ℕ, zero, suc}
+use lib.Dec.{eqb, leb}
+use Rattle.audit_rules.specs.declared.settings.AuditInputMode.{AuditInputMode}
+use Rattle.audit_rules.specs.declared.settings.AuditInputMode.the-variants as modes
+use Rattle.audit_rules.specs.declared.settings.MateRole.{MateRole}
+use Rattle.audit_rules.specs.declared.settings.MateRole.the-variants as roles
+
+-- 0 single reads, 1 pairs
+abbrev pub modeOf : ℕ → AuditInputMode
+modeOf zero = modes.SingleEnd
+modeOf (suc n) = modes.PairedEnd
+
+-- 0 S, 1 R1, 2 R2
+abbrev pub roleOf : ℕ → MateRole
+roleOf zero = roles.S
+roleOf (suc zero) = roles.R1
+roleOf (suc (suc n)) = roles.R2
+
+-- the number of a role
+abbrev pub isRole : ℕ → Bool
+isRole n = leb n 2
+
+-- a mark of 0 or 1
+abbrev pub isMark : ℕ → Bool
+isMark n = leb n 1
+
+-- what a mark of 1 says
+abbrev pub isSet : ℕ → Bool
+isSet n = eqb n 1

@@ -1,0 +1,84 @@
+-- Many fragments audited in one call (REFERENCE.md, "Many fragments").
+use mathlib.Core.Path.{_≡_}
+use mathlib.Core.List.{List, [], _∷_, _++_}
+use Prim.Native.Nat.{ℕ, zero, suc, _*_, _/_}
+use lib.ListN.{length, take, drop}
+use Rattle.promises.specs.Refusal.{unless, _orElse_, Outcome, refused, accepted, outcome}
+use Rattle.catalogue.specs.Catalogue.{Catalogue}
+use Rattle.scan.specs.Entries.{entryCount}
+use Rattle.answers.specs.Answer.{Row}
+use Rattle.rows.specs.Rows.{rowNumbers}
+use Rattle.ledger.specs.Booking.{Counters}
+use Rattle.audit_rules.specs.Settings.{Held}
+use Rattle.audit_rules.specs.Opening.{IndexLent, openingRefusal}
+use Rattle.audit_rules.specs.Fragment.{Fragment, heldAfter}
+use Rattle.audit_rules.specs.Run.{Call, Answer, answers, after}
+use Rattle.audit_rules.specs.Calls.{callOutcome}
+use Rattle.fragment_lists.specs.Lists.{FragmentLists, fragmentsIn, listsFit}
+use Rattle.fragment_lists.specs.declared.FragmentsAudit.{FragmentsAudit}
+
+-- ---- the single calls, and what they answer
+
+-- the numbers of each fragment's share: as many whole entries as each of n fragments can have
+abbrev pub shareWidth : List ℕ → ℕ → ℕ
+shareWidth entries n = 4 * (entryCount entries / n)
+
+-- a call for each fragment, with its share of the entries
+abbrev pub callsOf : IndexLent → ℕ → List ℕ → List Fragment → List Call
+callsOf lent width entries [] = []
+callsOf lent width entries (f ∷ fs) = record { lent = lent; fragment = f; entries = take width entries } ∷ callsOf lent width (drop width entries) fs
+
+-- the rows of reads
+abbrev pub rowsIn : List Row → List ℕ
+rowsIn [] = []
+rowsIn (r ∷ rs) = rowNumbers (accepted r) ++ rowsIn rs
+
+-- the refusal of a fragment as the row of each of its reads
+abbrev pub refusedRows : ℕ → ℕ → List ℕ
+refusedRows number zero = []
+refusedRows number (suc n) = rowNumbers (refused number) ++ refusedRows number n
+
+-- the rows of a fragment of n reads
+abbrev pub fragmentRows : ℕ → Outcome (List Row) → List ℕ
+fragmentRows n (refused number) = refusedRows number n
+fragmentRows n (accepted rs) = rowsIn rs
+
+-- the rows of all fragments
+abbrev pub allRows : List Call → List Answer → List ℕ
+allRows [] given = []
+allRows (x ∷ xs) [] = []
+allRows (x ∷ xs) (a ∷ given) = fragmentRows (length (x .fragment .reads)) (a .rows) ++ allRows xs given
+
+-- the shares that they leave
+abbrev pub allShares : List Answer → List ℕ
+allShares [] = []
+allShares (a ∷ given) = a .entries ++ allShares given
+
+-- ---- the call
+
+-- a refusal writes nothing
+abbrev pub writtenAfter : ℕ → List ℕ → List ℕ → List ℕ
+writtenAfter zero written buffer = written
+writtenAfter (suc n) written buffer = buffer
+
+module _ (q offset : ℕ) (c : Catalogue) (lent : IndexLent) (h : Held) (l : FragmentLists) where
+  -- the opening's checks, then 25
+  unfoldable pub listRefusal : List ℕ → ℕ
+  listRefusal rows = openingRefusal q offset c lent (h .state .settings) (h .counters) orElse unless (listsFit l (length rows)) 25
+
+  abbrev pub listWidth : List ℕ → ℕ
+  listWidth entries = shareWidth entries (length (l .ordinals))
+
+  -- the single calls that it stands for
+  abbrev pub listCalls : List ℕ → List Call
+  listCalls entries = callsOf lent (listWidth entries) entries (fragmentsIn l)
+
+  abbrev pub listAnswers : List ℕ → List Answer
+  listAnswers entries = answers q offset c h (listCalls entries)
+
+  -- refused, or state, counters, rows and shares are what the single calls give one after the other; nothing behind the shares is touched
+  pub record AuditsList (r : FragmentsAudit) (k′ : Counters) (rows entries rows′ entries′ : List ℕ) : Type 0 where
+    pub answer : callOutcome (r .answer) ≡ outcome (listRefusal rows) tt
+    pub held : record { state = r .state; counters = k′ } ≡ heldAfter (listRefusal rows) (after q offset c h (listCalls entries)) h
+    pub told : rows′ ≡ writtenAfter (listRefusal rows) (allRows (listCalls entries) (listAnswers entries)) rows
+    pub left : entries′ ≡ writtenAfter (listRefusal rows) (allShares (listAnswers entries) ++ drop (listWidth entries * length (l .ordinals)) entries) entries
