@@ -127,7 +127,7 @@ pub fn audit_list(
         width (now rows) (now entries) ⌝ }
     ensures { λ r. ⌜ ListAudited offset (lentSequences bases ends ranked) (wayIf indexed q) (old ranked) (lentHeld state placements singles multi)
         (callsOf (lentIndex indexed keys ranks positions) width (old entries)
-            (fragmentsIn (lentFragments ordinals counts (lentReads roles reads «read_ends» marks qualities «quality_ends»))))
+        (fragmentsIn (lentFragments ordinals counts (lentReads roles reads «read_ends» marks qualities «quality_ends»))))
         (width * length (old ordinals)) r (leftCounters placements singles multi) (new rows) (old entries) (new entries) ⌝ }
 {
     let mut held = state;
