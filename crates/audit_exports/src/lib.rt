@@ -11,8 +11,8 @@ ghost use Rattle.numbered_calls.specs.Calls.{lentCoded, codedFragment, OpensNum
 use numbered_calls::finish::apply_numbers;
 use numbered_calls::finish::finish_numbers;
 use numbered_calls::fragment::fragment_numbers;
-use numbered_calls::fragment::fragments_numbers;
 use numbered_calls::open::open_numbers;
+use numbered_lists::fragments_numbers;
 
 // `audit::open::open`, with the state that a run starts from.
 #[no_mangle]

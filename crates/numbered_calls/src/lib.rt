@@ -11,7 +11,7 @@ pub mod fragment;
 pub mod open;
 
 // The refusal of an answer, or 0.
-pub(crate) fn number_of(answer: CallAnswer) -> u64
+pub fn number_of(answer: CallAnswer) -> u64
     ensures { λ r. ⌜ r ≡ numberOf (callOutcome answer) ⌝ }
 {
     match answer {
