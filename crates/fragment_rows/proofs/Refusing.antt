@@ -13,9 +13,13 @@ use Rattle.answers.specs.Answer.{Row}
 use Rattle.rows.specs.Rows.{rowNumbers}
 use Rattle.fragment_lists.specs.Listed.{refusedRows, rowsIn}
 
-pub refused-long : (k n : ℕ) → length (refusedRows k n) ≡ 8 * n
+refused-long : (k n : ℕ) → length (refusedRows k n) ≡ 8 * n
 refused-long k zero = refl
 refused-long k (suc n) = omega (arith, refused-long k n)
+
+-- room for the refusals of n reads
+pub refused-room : (at n k most : ℕ) → 8 * at + length (refusedRows k n) ≤ most → 8 * (at + n) ≤ most
+refused-room at n k most h = omega (arith, refused-long k n)
 
 -- one row more, at the end
 refused-snoc : (k n : ℕ) → refusedRows k n ++ rowNumbers (refused k) ≡ refusedRows k (suc n)
@@ -39,8 +43,8 @@ module _ (at n k : ℕ) (b : List ℕ) where
         record {
           upto = omega arith;
           content =
-            e ∙ ap₂ (λ m l. placed m (rowNumbers (refused k)) l) there (r .content) ∙ placed-placed (8 * at) (refusedRows k i) b (rowNumbers (refused k)) (omega (arith, refused-long k i))
-            ∙ rw add-one (ap (λ l. placed (8 * at) l b) (refused-snoc k i));
+              e ∙ ap₂ (λ m l. placed m (rowNumbers (refused k)) l) there (r .content) ∙ placed-placed (8 * at) (refusedRows k i) b (rowNumbers (refused k)) (omega (arith, refused-long k i))
+              ∙ rw add-one (ap (λ l. placed (8 * at) l b) (refused-snoc k i));
           long = ap length e ∙ length-placed (8 * (at + i)) (rowNumbers (refused k)) now (omega (arith, r .long)) ∙ r .long;
         }
 
