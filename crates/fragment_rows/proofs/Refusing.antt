@@ -33,8 +33,8 @@ pub record Refusing (at n k : ℕ) (before : List ℕ) (i : ℕ) (buffer : List 
   pub long : length buffer ≡ length before
 
 module _ (at n k : ℕ) (b : List ℕ) where
-  pub refusing-start : Refusing at n k b 0 b
-  refusing-start = record { upto = omega arith; content = placed-none (8 * at) b; long = refl }
+  pub refusing-start : (i : ℕ) → i ≡ 0 → Refusing at n k b i b
+  refusing-start i z = record { upto = omega arith; content = rw z (placed-none (8 * at) b); long = refl }
 
   module _ (i : ℕ) (now : List ℕ) (r : Refusing at n k b i now) where
     pub refusing-next : i < n → 8 * (at + n) ≤ length b → (next : List ℕ) → next ≡ placed (8 * (at + i)) (rowNumbers (refused k)) now → Refusing at n k b (i + 1) next
