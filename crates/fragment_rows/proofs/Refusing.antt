@@ -13,7 +13,7 @@ use Rattle.answers.specs.Answer.{Row}
 use Rattle.rows.specs.Rows.{rowNumbers}
 use Rattle.fragment_lists.specs.Listed.{refusedRows, rowsIn}
 
-refused-long : (k n : ℕ) → length (refusedRows k n) ≡ 8 * n
+pub refused-long : (k n : ℕ) → length (refusedRows k n) ≡ 8 * n
 refused-long k zero = refl
 refused-long k (suc n) = omega (arith, refused-long k n)
 
