@@ -81,9 +81,12 @@ module _ (offset : ℕ) (ss : List (List ℕ)) (way : Way) (ranked : List ℕ) (
         pub rows-room : at + count ≤ sum ns
         rows-room = omega (arith, g .counted, ap sum some-left)
 
+        next-begins : width * (i + 1) ≡ width * i + width
+        next-begins = ap (λ n. width * n) (add-one i) ∙ mul-suc width i
+
         -- and so has its share
-        pub share-room : width * i + width ≤ length es
-        share-room = let m : width * suc i ≤ width * length os = mul-le-mul-left width more in omega (arith, g .entries-long, room, mul-suc width i)
+        pub share-room : width * (i + 1) ≤ length es
+        share-room = let m : width * suc i ≤ width * length os = mul-le-mul-left width more in omega (arith, g .entries-long, room, ap (λ n. width * n) (add-one i))
 
         module _ (state : AuditState) (k : Counters) (rows′ es′ : List ℕ) (f : FragmentListed offset ss way ranked h call (width * i) at state k rows es rows′ es′) where
           abbrev h′ : Held
@@ -99,19 +102,22 @@ module _ (offset : ℕ) (ss : List (List ℕ)) (way : Way) (ranked : List ℕ) (
           rows-end : 8 * (at + count) ≡ 8 * at + length fragment-rows
           rows-end = omega (arith, length-told offset ss way ranked h call, length-reads l at count)
 
+          share-long : length share ≡ width
+          share-long =
+              let fits : width * i + width ≤ length es = omega (arith, share-room, next-begins) in
+              length-share offset ss way ranked h call ∙ length-window es (width * i) width fits
+
           share-end : width * (i + 1) ≡ width * i + length share
-          share-end = omega (arith, ap (λ n. width * n) (add-one i), mul-suc width i, length-share offset ss way ranked h call, length-window es (width * i) width share-room)
+          share-end = omega (arith, next-begins, share-long)
 
           rows-fit : 8 * at + length fragment-rows ≤ length rows
           rows-fit = omega (arith, rows-end, rows-room, g .rows-long)
 
           share-fits : width * i + length share ≤ length es
-          share-fits = omega (arith, share-room, length-share offset ss way ranked h call, length-window es (width * i) width share-room)
+          share-fits = omega (arith, share-room, next-begins, share-long)
 
           next-share : (b : List ℕ) → drop width (drop (width * i) b) ≡ drop (width * (i + 1)) b
-          next-share b =
-              let e : width * i + width ≡ width * (i + 1) = omega (arith, ap (λ n. width * n) (add-one i), mul-suc width i) in
-              drop-drop width (width * i) b ∙ ap (λ n. drop n b) e
+          next-share b = drop-drop width (width * i) b ∙ ap (λ n. drop n b) (sym next-begins)
 
           behind-share : drop (width * (i + 1)) es′ ≡ drop (width * (i + 1)) es
           behind-share = ap (drop (width * (i + 1))) (f .left) ∙ drop-placed (width * i) share es (width * (i + 1)) share-fits share-end
