@@ -3,7 +3,7 @@
 use mathlib.Core.Path.{_≡_, refl, sym, ap, subst, _∙_}
 use mathlib.Core.Bool.{Bool, true, false}
 use mathlib.Core.List.{List, _++_}
-use Prim.Native.Nat.{ℕ, zero, suc, _*_}
+use Prim.Native.Nat.{ℕ, zero, suc, _*_, _≤_}
 use native.Mathlib.Omega.{arith}
 use lib.ListN.{length, take, drop}
 use Rattle.promises.specs.Refusal.{unless, _orElse_, outcome}
@@ -14,7 +14,8 @@ use Rattle.catalogue.specs.declared.ranks.Ranking.{Ranking}
 use Rattle.catalogue.specs.declared.ranks.Ranking.the-variants.{Refused, Ranked}
 use Rattle.seeds.specs.Key.{SeedLength}
 use Rattle.index.specs.Index.{rankedSequences, mappedSequences}
-use Rattle.planning.proofs.Planning.{ranked-mapped}
+use Rattle.planning.specs.Answers.{PlanRanked}
+use Rattle.planning.proofs.Planning.{within-buffer, prefix-length, ranked-mapped}
 use Rattle.ledger.specs.Booking.{Counters}
 use Rattle.audit_rules.specs.declared.calls.CallAnswer.the-variants as calls
 use Rattle.audit_rules.specs.Settings.{Held}
@@ -112,9 +113,19 @@ module _ (q offset : ℕ) (c : Catalogue) (indexed : Bool) (ks rs os : List ℕ)
       let w = outcome-number (openingRefusal q offset c (indexIf indexed ks rs os) (h .state .settings) (h .counters)) n (length (mapped c)) (sym (p .answer) ∙ ap rankingOutcome told) in
       list-refused q offset c (indexIf indexed ks rs os) h l rows entries n (w .0) (w .1)
 
-  pub opening-passes : SeedLength q → (n : ℕ) → r ≡ Ranked n → (a : FragmentsAudit) (k : Counters) (rows′ entries′ : List ℕ)
-      → TestedList offset (rankedSequences (c .bases) (c .baseEnds) (take n buffer)) (wayIf indexed q) (take n buffer) (indexIf indexed ks rs os) h l a k rows entries rows′ entries′
-      → AuditsList q offset c (indexIf indexed ks rs os) h l a k rows entries rows′ entries′
-  opening-passes seed n told a k rows′ entries′ t =
-      list-done q offset c (indexIf indexed ks rs os) h l rows entries (unrefused q offset c (indexIf indexed ks rs os) (h .state .settings) (h .counters) r buffer p n told) a k rows′ entries′
-      (rw (← ranked-mapped q c r buffer (planned q offset c (indexIf indexed ks rs os) (h .state .settings) (h .counters) r buffer p n told seed) n told, ← p .ranks n told, ← way-lent indexed q ks rs os) t)
+  module _ (seed : SeedLength q) (n : ℕ) (told : r ≡ Ranked n) where
+    plan : PlanRanked q c r buffer
+    plan = planned q offset c (indexIf indexed ks rs os) (h .state .settings) (h .counters) r buffer p n told seed
+
+    pub within : n ≤ length buffer
+    within = within-buffer q c r buffer plan n told
+
+    pub prefix : n ≡ length (take n buffer)
+    prefix = prefix-length q c r buffer plan n told
+
+    pub opening-passes : (a : FragmentsAudit) (k : Counters) (rows′ entries′ : List ℕ)
+        → TestedList offset (rankedSequences (c .bases) (c .baseEnds) (take n buffer)) (wayIf indexed q) (take n buffer) (indexIf indexed ks rs os) h l a k rows entries rows′ entries′
+        → AuditsList q offset c (indexIf indexed ks rs os) h l a k rows entries rows′ entries′
+    opening-passes a k rows′ entries′ t =
+        list-done q offset c (indexIf indexed ks rs os) h l rows entries (unrefused q offset c (indexIf indexed ks rs os) (h .state .settings) (h .counters) r buffer p n told) a k rows′ entries′
+        (rw (← ranked-mapped q c r buffer plan n told, ← p .ranks n told, ← way-lent indexed q ks rs os) t)
