@@ -31,7 +31,8 @@ put-eighteen ns b found at n e h l w = w ∙ ap (λ k. placed 0 (window ns at k)
 
 -- ---- the last ordinal
 
-put-two : (at : ℕ) (b : List ℕ) (u v : ℕ) → at + 2 ≤ length b → set (set b at u) (at + 1) v ≡ placed at (u ∷ v ∷ []) b
+-- two numbers from a place on
+pub put-two : (at : ℕ) (b : List ℕ) (u v : ℕ) → at + 2 ≤ length b → set (set b at u) (at + 1) v ≡ placed at (u ∷ v ∷ []) b
 put-two at b u v h = placed-next at (u ∷ []) b _ v (at + 1) (omega arith) (placed-one at u b (omega arith)) (omega arith)
 
 no-last : (o : LastOrdinal) → OneOf (0 ∷ []) (tagOf the-type o) → 0 ∷ 0 ∷ [] ≡ lastNumbers o
@@ -109,7 +110,8 @@ module _ (s : AuditState) (lt : length (s .ledger .table) ≡ 18) (lr : length (
 
 -- ---- read back
 
-three : (xs : List ℕ) (at : ℕ) → at + 3 ≤ length xs → getD xs at 0 ∷ getD xs (suc at) 0 ∷ getD xs (suc (suc at)) 0 ∷ [] ≡ window xs at 3
+-- three numbers from a place on
+pub three : (xs : List ℕ) (at : ℕ) → at + 3 ≤ length xs → getD xs at 0 ∷ getD xs (suc at) 0 ∷ getD xs (suc (suc at)) 0 ∷ [] ≡ window xs at 3
 three xs at h = sym (rw (drop-cons xs at 0 (omega arith), drop-cons xs (suc at) 0 (omega arith), drop-cons xs (suc (suc at)) 0 (omega arith)))
 
 module _ (ns : List ℕ) (h : length ns ≡ 32) where
