@@ -93,7 +93,13 @@ pub fn is_sheet(numbers: &[u64]) -> bool
     if numbers[21] == 0 {
         return true;
     }
-    numbers[22] == 0 && numbers[23] == 0 && numbers[24] == 0
+    if numbers[22] != 0 {
+        return false;
+    }
+    if numbers[23] != 0 {
+        return false;
+    }
+    numbers[24] == 0
 }
 
 // The sheet that numbers stand for.

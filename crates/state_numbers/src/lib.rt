@@ -130,8 +130,10 @@ pub fn is_state(numbers: &[u64]) -> bool
     if 1 < numbers[5] {
         return false;
     }
-    if numbers[5] == 0 && numbers[6] != 0 {
-        return false;
+    if numbers[5] == 0 {
+        if numbers[6] != 0 {
+            return false;
+        }
     }
     numbers[31] <= 1
 }

@@ -1,57 +1,49 @@
+-- `state_numbers::copy_numbers` meets its contract. The loop's invariant: the numbers passed stand in the buffer.
+-- Assumes nothing.
+use Prim.Native.Nat.{_-_}
+use native.Mathlib.Omega.{arith}
+use Rattle.state_numbers.proofs.Copying.{Copied, copied-none, copied-more, copied-all}
 use Rattle.state_numbers.proofs.copy_numbers.Statement.{statement}
 use Rattle.state_numbers.proofs.copy_numbers.Tie as tie
-use Rattle.state_numbers.proofs.copy_numbers.Reads as reads
-use Rattle.state_numbers.proofs.copy_numbers.Lts as lts
 
 abbrev Inv-loop : tie.InvT-loop
-Inv-loop to₀ at numbers n i₀ to i = ?
+Inv-loop to₀ at numbers n i₀ to i = Copied to₀ at numbers to i
 
 abbrev μ-loop : tie.MeasureT-loop
-μ-loop to₀ at numbers n i₀ to i = ?
+μ-loop to₀ at numbers n i₀ to i = n - i
 
--- src/lib.rt:43:5
 loop-holds : tie.Need-loop-holds Inv-loop μ-loop
-loop-holds c = ?
+loop-holds c = copied-none _ _ _
 
--- src/lib.rt:44:22
 mul-to : tie.Need-mul-to Inv-loop μ-loop
-mul-to c = ?
+mul-to c = omega arith
 
--- src/lib.rt:44:22
 shared-slice-read-to : tie.Need-shared-slice-read-to Inv-loop μ-loop
-shared-slice-read-to c = ?
+shared-slice-read-to c = omega arith
 
--- src/lib.rt:44:12
 add-to : tie.Need-add-to Inv-loop μ-loop
-add-to c = ?
+add-to c = omega arith
 
--- src/lib.rt:44:9
 mul-to-2 : tie.Need-mul-to-2 Inv-loop μ-loop
-mul-to-2 c = ?
+mul-to-2 c = omega arith
 
--- src/lib.rt:44:9
 slice-write-to : tie.Need-slice-write-to Inv-loop μ-loop
-slice-write-to c = ?
+slice-write-to c = omega arith
 
--- src/lib.rt:45:9
 add-i : tie.Need-add-i Inv-loop μ-loop
-add-i c = ?
+add-i c = omega arith
 
--- src/lib.rt:43:5
 loop-less : tie.Need-loop-less Inv-loop μ-loop
-loop-less c = ?
+loop-less c = omega arith
 
--- src/lib.rt:43:5
 loop-again : tie.Need-loop-again Inv-loop μ-loop
-loop-again c = ?
+loop-again c = copied-more _ _ _ _ _ (c .before .before .loop .inv) (omega arith) (omega arith)
 
--- src/lib.rt:37:1
 same-length : tie.Need-same-length Inv-loop μ-loop
-same-length c = ?
+same-length c = omega arith
 
--- src/lib.rt:37:1
 returns : tie.Need-returns Inv-loop μ-loop
-returns c = ?
+returns c = copied-all _ _ _ _ _ (c .before .loop .inv) (omega arith)
 
 pub copy-numbers-spec : {M : Type 1} → statement M
 copy-numbers-spec =

@@ -1,72 +1,59 @@
+-- `state_numbers::is_state` meets its contract: one test after the other.
+-- Assumes nothing.
+use mathlib.Core.Logic.{⊎-elim}
+use native.Mathlib.Omega.{arith}
+use Rattle.state_numbers.proofs.Testing.{wrong-length, wrong-layout, wrong-mode, wrong-remap, wrong-floor, wrong-flag, wrong-ordinal, with-last, without-last}
 use borrow.Author.Needs.{needs}
 use Rattle.state_numbers.proofs.is_state.Statement.{statement}
 use Rattle.state_numbers.proofs.is_state.Tie as tie
-use Rattle.state_numbers.proofs.is_state.Reads as reads
-use Rattle.state_numbers.proofs.is_state.Lts as lts
 
--- src/lib.rt:116:9
 returns : tie.Need-returns
-returns c = ?
+returns c = wrong-length (c .before .args .numbers .now) (omega arith)
 
--- src/lib.rt:118:8
 shared-slice-read-if2 : tie.Need-shared-slice-read-if2
 shared-slice-read-if2 c = search needs
 
--- src/lib.rt:119:9
 returns-2 : tie.Need-returns-2
-returns-2 c = ?
+returns-2 c = wrong-layout (c .before .before .before .args .numbers .now) (omega arith) (omega arith)
 
--- src/lib.rt:121:12
 shared-slice-read-if3 : tie.Need-shared-slice-read-if3
 shared-slice-read-if3 c = search needs
 
--- src/lib.rt:122:9
 returns-3 : tie.Need-returns-3
-returns-3 c = ?
+returns-3 c = wrong-mode (c .before .before .before .before .before .args .numbers .now) (omega arith) (omega arith) (omega arith)
 
--- src/lib.rt:124:12
 shared-slice-read-if4 : tie.Need-shared-slice-read-if4
 shared-slice-read-if4 c = search needs
 
--- src/lib.rt:125:9
 returns-4 : tie.Need-returns-4
-returns-4 c = ?
+returns-4 c = wrong-remap (c .before .before .before .before .before .before .before .args .numbers .now) (omega arith) (omega arith) (omega arith) (omega arith)
 
--- src/lib.rt:127:14
 shared-slice-read-if5 : tie.Need-shared-slice-read-if5
 shared-slice-read-if5 c = search needs
 
--- src/lib.rt:128:9
 returns-5 : tie.Need-returns-5
-returns-5 c = ?
+returns-5 c = wrong-floor (c .before .before .before .before .before .before .before .before .before .args .numbers .now) (omega arith) (omega arith) (omega arith) (omega arith) (omega arith)
 
--- src/lib.rt:130:12
 shared-slice-read-if6 : tie.Need-shared-slice-read-if6
 shared-slice-read-if6 c = search needs
 
--- src/lib.rt:131:9
 returns-6 : tie.Need-returns-6
-returns-6 c = ?
+returns-6 c = wrong-flag (c .before .before .before .before .before .before .before .before .before .before .before .args .numbers .now) (omega arith) (omega arith) (omega arith) (omega arith) (omega arith) (omega arith)
 
--- src/lib.rt:133:8
 shared-slice-read-if7 : tie.Need-shared-slice-read-if7
 shared-slice-read-if7 c = search needs
 
--- src/lib.rt:133:27
 shared-slice-read-if8 : tie.Need-shared-slice-read-if8
 shared-slice-read-if8 c = search needs
 
--- src/lib.rt:134:9
 returns-7 : tie.Need-returns-7
-returns-7 c = ?
+returns-7 c = wrong-ordinal (c .before .before .before .before .before .before .before .before .before .before .before .before .before .before .before .args .numbers .now) (omega arith) (omega arith) (omega arith) (omega arith) (omega arith) (omega arith) (omega arith)
 
--- src/lib.rt:136:5
 shared-slice-read-result : tie.Need-shared-slice-read-result
 shared-slice-read-result c = search needs
 
--- src/lib.rt:112:1
 returns-8 : tie.Need-returns-8
-returns-8 c = ?
+returns-8 c = ⊎-elim (λ w. without-last (c .before .before .before .before .before .before .before .before .before .before .before .before .before .before .args .numbers .now) (omega arith) (omega arith) (omega arith) (omega arith) (omega arith) (omega arith) (omega arith)) (λ w. with-last (c .before .before .before .before .before .before .before .before .before .before .before .before .before .before .args .numbers .now) (omega arith) (omega arith) (omega arith) (omega arith) (omega arith) (omega arith)) (c .before .if7 .came)
 
 pub is-state-spec : {M : Type 1} → statement M
 is-state-spec =

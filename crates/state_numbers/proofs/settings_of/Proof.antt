@@ -1,41 +1,34 @@
+-- `state_numbers::settings_of` meets its contract.
+-- Assumes nothing.
+use native.Mathlib.Omega.{arith}
+use Rattle.state_numbers.proofs.Testing.{state-parts}
 use borrow.Author.Needs.{needs}
 use Rattle.state_numbers.proofs.settings_of.Statement.{statement}
 use Rattle.state_numbers.proofs.settings_of.Tie as tie
-use Rattle.state_numbers.proofs.settings_of.Reads as reads
-use Rattle.state_numbers.proofs.settings_of.Lts as lts
-use Rattle.audit_codes.proofs.mode_of.Reads as mode-of-reads
 
--- src/lib.rt:153:23
 shared-slice-read-mode-of : tie.Need-shared-slice-read-mode-of
-shared-slice-read-mode-of c = ?
+shared-slice-read-mode-of c = let s = state-parts (c .before .before .args .numbers .now) (c .before .before .pre) in omega arith
 
--- src/lib.rt:153:23
 cast-mode-of : tie.Need-cast-mode-of
-cast-mode-of c = ?
+cast-mode-of c = let s = state-parts (c .before .before .args .numbers .now) (c .before .before .pre) in omega arith
 
--- src/lib.rt:153:15
 mode-of-requires : tie.Need-mode-of-requires
 mode-of-requires c κs = search needs
 
--- src/lib.rt:154:16
 shared-slice-read-t7 : tie.Need-shared-slice-read-t7
-shared-slice-read-t7 c = ?
+shared-slice-read-t7 c = let s = state-parts (c .before .before .before .before .args .numbers .now) (c .before .before .before .before .pre) in omega arith
 
--- src/lib.rt:155:16
 shared-slice-read-t10 : tie.Need-shared-slice-read-t10
-shared-slice-read-t10 c = ?
+shared-slice-read-t10 c = let s = state-parts (c .before .before .before .before .before .args .numbers .now) (c .before .before .before .before .before .pre) in omega arith
 
--- src/lib.rt:155:16
 cast-t11 : tie.Need-cast-t11
-cast-t11 c = ?
+cast-t11 c = let s = state-parts (c .before .before .before .before .before .args .numbers .now) (c .before .before .before .before .before .pre) in omega arith
 
--- src/lib.rt:156:16
 shared-slice-read-t13 : tie.Need-shared-slice-read-t13
-shared-slice-read-t13 c = ?
+shared-slice-read-t13 c = let s = state-parts (c .before .before .before .before .before .before .args .numbers .now) (c .before .before .before .before .before .before .pre) in omega arith
 
--- src/lib.rt:148:1
 returns : tie.Need-returns
-returns c = ?
+returns c = rw (c .before .before .before .mode-of .ensures)
 
 pub settings-of-spec : {M : Type 1} → statement M
 settings-of-spec =
