@@ -1,5 +1,6 @@
 //! The two sides, the rules in plain words, and random inputs.
 
+pub mod audits;
 pub mod inputs;
 pub mod jobs;
 #[rustfmt::skip]
