@@ -3,8 +3,11 @@
 pub mod audits;
 pub mod inputs;
 pub mod jobs;
+pub mod model_audit;
 #[rustfmt::skip]
 pub mod ours;
+#[rustfmt::skip]
+pub mod ours_audit;
 pub mod rules;
 pub mod theirs;
 
