@@ -3,8 +3,9 @@
 use harness::audits::{Case, Fragment, Read, Settings};
 use harness::inputs::{self, Rng};
 use harness::theirs::{self, Mapper};
-use harness::{rules, Catalogue, MOST_LIMIT};
+use harness::{Catalogue, MOST_LIMIT};
 use veritasm::indexed_mapper::DEFAULT_SEED_LENGTH;
+use veritasm::model::Unitig;
 
 /// What the program can hold.
 const TARGETS: usize = 16;
@@ -15,13 +16,19 @@ const READ: usize = 100;
 /// An audit, and the number of its postings, if it is small enough.
 pub fn audit(rng: &mut Rng) -> Option<(Case, usize)> {
     let c = targets(rng)?;
-    let remap = u8::from(!rng.one_in(8));
+    let remap = u8::from(!rng.one_in(16));
     let settings = Settings { mode: rng.below(2) as u8, remap, floor: *rng.pick(&[0, 0, 0, 1, 20, 20, 40, 93]), limit: MOST_LIMIT };
-    let n = *rng.pick(&[1, 1, 1, 1, 1, 1, 2, 2, 2, 2, 3, 3, 4, 5, 6, 7, 8]);
-    let mut ordinal = *rng.pick(&[0, 0, 1, 7, 1 << 32, u64::MAX - 70]);
+    let n = match rng.below(10) {
+        0 => rng.within(3, 8),
+        1 | 2 => 2,
+        _ => 1,
+    };
+    let mut ordinal = if rng.one_in(12) { *rng.pick(&[1 << 32, u64::MAX - 70]) } else { rng.below(4) as u64 };
     let mut case = Case { c, settings, fragments: Vec::new() };
+    let unitigs = theirs::unitigs(&case.c)?;
+    let mapper = mapper_of(&unitigs).expect("a right catalogue");
     for _ in 0..n {
-        let reads = roles(settings.mode).iter().map(|&role| read(rng, &case, role)).collect::<Option<_>>()?;
+        let reads = roles(settings.mode).iter().map(|&role| read(rng, &case, &mapper, role)).collect();
         case.fragments.push(Fragment { ordinal, reads, entries: 0 });
         ordinal += *rng.pick(&[1, 1, 1, 2, 9]);
     }
@@ -30,8 +37,7 @@ pub fn audit(rng: &mut Rng) -> Option<(Case, usize)> {
         wrong(rng, &mut case);
     }
     lend(rng, &mut case)?;
-    let right = rules::plan_refusal(&case.c, DEFAULT_SEED_LENGTH) == 0;
-    let postings = if right { rules::index(&case.c, DEFAULT_SEED_LENGTH)[0].len() } else { 0 };
+    let postings = mapper_of(&theirs::unitigs(&case.c)?).map_or(0, |m| m.inner.posting_count());
     (postings <= POSTINGS).then_some((case, postings))
 }
 
@@ -43,15 +49,40 @@ fn roles(mode: u8) -> &'static [u8] {
     }
 }
 
-/// Mostly few targets, with short names.
+/// Mostly few targets with short names, one of them linear.
 fn targets(rng: &mut Rng) -> Option<Catalogue> {
     let c = inputs::catalogue(rng, DEFAULT_SEED_LENGTH);
     let (most, names) = if rng.one_in(12) { (TARGETS, 600) } else { (4, 24) };
-    (c.marks.len() <= most && c.identifiers.len() <= names && c.bases.len() <= 60 * most).then_some(c)
+    let linear = c.marks.contains(&0) || rng.one_in(8);
+    (linear && c.marks.len() <= most && c.identifiers.len() <= names && c.bases.len() <= 60 * most).then_some(c)
 }
 
-fn read(rng: &mut Rng, case: &Case, role: u8) -> Option<Read> {
-    let mut bases = inputs::read(rng, &case.c, DEFAULT_SEED_LENGTH);
+/// Bases with some matches, if a few draws give such ones.
+fn bases(rng: &mut Rng, c: &Catalogue, mapper: &Mapper) -> Vec<u8> {
+    let wanted = *rng.pick(&[0, 0, 1, 2, 3]);
+    let mut bases = inputs::read(rng, c, DEFAULT_SEED_LENGTH);
+    for _ in 0..5 {
+        if bases.len() <= READ && matches_of(mapper, &bases) >= wanted {
+            break;
+        }
+        bases = inputs::read(rng, c, DEFAULT_SEED_LENGTH);
+    }
+    bases.truncate(READ);
+    bases
+}
+
+/// The Rust's mapper, if it takes the targets.
+fn mapper_of(unitigs: &[Unitig]) -> Option<Mapper<'_>> {
+    Mapper::new(unitigs, DEFAULT_SEED_LENGTH).ok()
+}
+
+/// The matches of a read in upper case; none of one that the mapper does not take.
+fn matches_of(mapper: &Mapper, bases: &[u8]) -> u64 {
+    mapper.map(&bases.to_ascii_uppercase(), MOST_LIMIT).map_or(0, |a| a.groups.len() as u64)
+}
+
+fn read(rng: &mut Rng, case: &Case, mapper: &Mapper, role: u8) -> Read {
+    let mut bases = bases(rng, &case.c, mapper);
     match rng.below(8) {
         0 => bases.make_ascii_lowercase(),
         1 => bases.iter_mut().filter(|_| rng.one_in(3)).for_each(|b| b.make_ascii_lowercase()),
@@ -62,7 +93,7 @@ fn read(rng: &mut Rng, case: &Case, role: u8) -> Option<Read> {
         _ => {}
     }
     let qualities = qualities(rng, bases.len(), case.settings.floor);
-    (bases.len() <= READ).then_some(Read { role, bases, qualities })
+    Read { role, bases, qualities }
 }
 
 /// Absent, at the floor, above it, or with one below it.
@@ -83,9 +114,9 @@ fn qualities(rng: &mut Rng, n: usize, floor: u8) -> Option<Vec<u8>> {
 /// The matches of each read, were they all eligible that can be.
 fn matches(case: &Case) -> Vec<Vec<u64>> {
     let unitigs = theirs::unitigs(&case.c).unwrap_or_default();
-    let mapper = Mapper::new(&unitigs, DEFAULT_SEED_LENGTH);
+    let mapper = mapper_of(&unitigs);
     let of = |read: &Read| match &mapper {
-        Ok(m) if case.settings.remap == 1 => m.map(&read.bases.to_ascii_uppercase(), MOST_LIMIT).map_or(0, |a| a.groups.len() as u64),
+        Some(m) if case.settings.remap == 1 => matches_of(m, &read.bases),
         _ => 0,
     };
     case.fragments.iter().map(|f| f.reads.iter().map(of).collect()).collect()
@@ -96,21 +127,20 @@ fn limit(rng: &mut Rng, case: &Case) -> u64 {
     let matches = matches(case);
     let of = rng.pick(&matches);
     let n = *rng.pick(of);
-    match rng.below(8) {
-        0 => 1,
-        1 => n.saturating_sub(1).max(1),
-        2 | 3 => n.max(1),
-        4 => n + 1,
-        5 => rng.within(1, 8) as u64,
-        6 => 10,
-        _ => MOST_LIMIT,
+    match rng.below(16) {
+        0 => MOST_LIMIT,
+        1 | 2 => 1,
+        3..=5 => n.saturating_sub(1).max(1),
+        6..=9 => n.max(1),
+        10 | 11 => n + 1,
+        _ => rng.within(1, 8) as u64,
     }
 }
 
 /// Entries that suffice: for each read its matches or the limit, and sometimes one more.
 fn lend(rng: &mut Rng, case: &mut Case) -> Option<()> {
     let limit = case.settings.limit;
-    let most = if rng.one_in(10) { ENTRIES } else { 48 };
+    let most = if rng.one_in(10) { ENTRIES } else { 40 };
     let reads = roles(case.settings.mode).len();
     let matches = matches(case);
     for (f, matches) in case.fragments.iter_mut().zip(matches) {
@@ -150,12 +180,14 @@ fn wrong_base(rng: &mut Rng, c: &mut Catalogue) {
     }
 }
 
-fn wrong_order(rng: &mut Rng, fragments: &mut [Fragment]) {
-    if fragments.len() > 1 {
-        let at = rng.within(1, fragments.len() - 1);
-        let last = fragments[at - 1].ordinal;
-        fragments[at].ordinal = *rng.pick(&[last, last, last.saturating_sub(1), 0]);
+/// A fragment again, or one whose ordinal is not above the last.
+fn wrong_order(rng: &mut Rng, fragments: &mut Vec<Fragment>) {
+    if fragments.len() == 1 {
+        fragments.push(fragments[0].clone());
     }
+    let at = rng.within(1, fragments.len() - 1);
+    let last = fragments[at - 1].ordinal;
+    fragments[at].ordinal = *rng.pick(&[last, last, last.saturating_sub(1), 0]);
 }
 
 fn wrong_roles(rng: &mut Rng, case: &mut Case) {

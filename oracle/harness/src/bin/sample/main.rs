@@ -2,6 +2,7 @@
 //! `rust_audits`: sample FOLDER FOLDER.
 
 mod audit_inputs;
+mod audit_kinds;
 mod audit_lines;
 mod audits;
 mod blocks;
