@@ -18,7 +18,7 @@ pub fn audit(rng: &mut Rng) -> Option<(Case, usize)> {
     let c = targets(rng)?;
     let remap = u8::from(!rng.one_in(16));
     let settings = Settings { mode: rng.below(2) as u8, remap, floor: *rng.pick(&[0, 0, 0, 1, 20, 20, 40, 93]), limit: MOST_LIMIT };
-    let n = match rng.below(10) {
+    let n = match rng.below(14) {
         0 => rng.within(3, 8),
         1 | 2 => 2,
         _ => 1,
@@ -52,7 +52,7 @@ fn roles(mode: u8) -> &'static [u8] {
 /// Mostly few targets with short names, one of them linear.
 fn targets(rng: &mut Rng) -> Option<Catalogue> {
     let c = inputs::catalogue(rng, DEFAULT_SEED_LENGTH);
-    let (most, names) = if rng.one_in(12) { (TARGETS, 600) } else { (4, 24) };
+    let (most, names) = if rng.one_in(40) { (TARGETS, 600) } else { (3, 24) };
     let linear = c.marks.contains(&0) || rng.one_in(8);
     (linear && c.marks.len() <= most && c.identifiers.len() <= names && c.bases.len() <= 60 * most).then_some(c)
 }
@@ -140,7 +140,7 @@ fn limit(rng: &mut Rng, case: &Case) -> u64 {
 /// Entries that suffice: for each read its matches or the limit, and sometimes one more.
 fn lend(rng: &mut Rng, case: &mut Case) -> Option<()> {
     let limit = case.settings.limit;
-    let most = if rng.one_in(10) { ENTRIES } else { 40 };
+    let most = if rng.one_in(20) { ENTRIES } else { 32 };
     let reads = roles(case.settings.mode).len();
     let matches = matches(case);
     for (f, matches) in case.fragments.iter_mut().zip(matches) {
@@ -161,8 +161,8 @@ fn wrong(rng: &mut Rng, case: &mut Case) {
         1 => case.settings.limit = *rng.pick(&[0, MOST_LIMIT + 1, u64::MAX]),
         2 => wrong_base(rng, &mut case.c),
         3 => inputs::same_name(rng, &mut case.c),
-        4..=6 => wrong_order(rng, &mut case.fragments),
-        7..=9 => wrong_roles(rng, case),
+        4 | 5 => wrong_order(rng, &mut case.fragments),
+        6..=8 => wrong_roles(rng, case),
         _ => wrong_read(rng, case),
     }
 }

@@ -9,7 +9,7 @@ use harness::inputs::Rng;
 use std::collections::{BTreeMap, HashMap};
 
 /// How many audits, how many of one kind at most, and one in how many is audited plain too.
-const AUDITS: usize = 2000;
+const AUDITS: usize = 1800;
 const OF_A_KIND: usize = 6;
 const PLAIN: usize = 8;
 
