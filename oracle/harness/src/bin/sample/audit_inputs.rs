@@ -154,16 +154,46 @@ fn lend(rng: &mut Rng, case: &mut Case) -> Option<()> {
     Some(())
 }
 
-/// One thing wrong with an audit, most of them with a fragment.
+/// One thing wrong with an audit or two: with what it is opened by, or, most of them, with its fragments.
 fn wrong(rng: &mut Rng, case: &mut Case) {
-    match rng.below(16) {
-        0 => case.settings.floor = *rng.pick(&[94, 95, 255]),
-        1 => case.settings.limit = *rng.pick(&[0, MOST_LIMIT + 1, u64::MAX]),
-        2 => wrong_base(rng, &mut case.c),
-        3 => inputs::same_name(rng, &mut case.c),
-        4 | 5 => wrong_order(rng, &mut case.fragments),
-        6..=8 => wrong_roles(rng, case),
-        _ => wrong_read(rng, case),
+    if !rng.one_in(4) {
+        wrong_fragment(rng, case);
+        if rng.one_in(3) {
+            wrong_fragment(rng, case);
+        }
+        return;
+    }
+    // never both of the targets: with remap off the Rust looks at a name before it looks at the bases of later targets
+    match rng.below(4) {
+        0 => wrong_base(rng, &mut case.c),
+        1 => inputs::same_name(rng, &mut case.c),
+        _ => wrong_settings(rng, &mut case.settings),
+    }
+    if rng.one_in(4) {
+        wrong_settings(rng, &mut case.settings);
+    }
+}
+
+fn wrong_settings(rng: &mut Rng, settings: &mut Settings) {
+    if rng.one_in(2) {
+        settings.floor = *rng.pick(&[94, 95, 255]);
+    } else {
+        settings.limit = *rng.pick(&[0, MOST_LIMIT + 1, u64::MAX]);
+    }
+}
+
+fn wrong_fragment(rng: &mut Rng, case: &mut Case) {
+    let floor = case.settings.floor + 33;
+    if rng.one_in(6) {
+        return wrong_order(rng, &mut case.fragments);
+    }
+    let at = rng.below(case.fragments.len());
+    let reads = &mut case.fragments[at].reads;
+    if rng.one_in(3) && !reads.is_empty() {
+        wrong_roles(rng, reads);
+    } else if !reads.is_empty() {
+        let at = rng.below(reads.len());
+        wrong_read(rng, &mut reads[at], floor);
     }
 }
 
@@ -190,9 +220,7 @@ fn wrong_order(rng: &mut Rng, fragments: &mut Vec<Fragment>) {
     fragments[at].ordinal = *rng.pick(&[last, last, last.saturating_sub(1), 0]);
 }
 
-fn wrong_roles(rng: &mut Rng, case: &mut Case) {
-    let at = rng.below(case.fragments.len());
-    let reads = &mut case.fragments[at].reads;
+fn wrong_roles(rng: &mut Rng, reads: &mut Vec<Read>) {
     match rng.below(5) {
         0 => drop(reads.pop()),
         1 => reads.push(reads[0].clone()),
@@ -205,18 +233,13 @@ fn wrong_roles(rng: &mut Rng, case: &mut Case) {
     }
 }
 
-fn wrong_read(rng: &mut Rng, case: &mut Case) {
-    let floor = case.settings.floor.min(93) + 33;
-    let at = rng.below(case.fragments.len());
-    let reads = &mut case.fragments[at].reads;
-    let at = rng.below(reads.len());
-    let read = &mut reads[at];
+fn wrong_read(rng: &mut Rng, read: &mut Read, floor: u8) {
     let n = read.bases.len();
     match rng.below(6) {
-        0 => *read = Read { bases: Vec::new(), qualities: rng.one_in(2).then(Vec::new), ..*read },
-        1 => read.qualities = Some(vec![floor; *rng.pick(&[n - 1, n + 1])]),
-        2 => read.qualities = Some(vec![b'!'; *rng.pick(&[0, n - 1, n + 1])]),
-        _ => {
+        0 => read.bases.clear(),
+        1 => read.qualities = Some(vec![floor; *rng.pick(&[n.saturating_sub(1), n + 1])]),
+        2 => read.qualities = Some(vec![b'!'; *rng.pick(&[0, n.saturating_sub(1), n + 1])]),
+        _ if n > 0 => {
             let mut qualities = vec![floor; n];
             qualities[rng.below(n)] = *rng.pick(&[32, 127, 0, 255]);
             // before it or behind it, one that is low
@@ -225,5 +248,6 @@ fn wrong_read(rng: &mut Rng, case: &mut Case) {
             }
             read.qualities = Some(qualities);
         }
+        _ => {}
     }
 }
