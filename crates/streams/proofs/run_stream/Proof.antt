@@ -4,7 +4,7 @@ use mathlib.Core.Path.{sym, subst}
 use native.Mathlib.Omega.{arith}
 use borrow.Author.Needs.{needs}
 use Rattle.jobs.specs.Jobs.{buffersOf, JobKept}
-use Rattle.streams.proofs.Turning.{Runs, zeros, new-kept, has-room, steps}
+use Rattle.streams.proofs.Running.{Runs, zeros, new-kept, has-room, steps}
 use Rattle.streams.proofs.run_stream.Statement.{statement}
 use Rattle.streams.proofs.run_stream.Tie as tie
 

@@ -6,7 +6,7 @@ use lib.ListN.{length, take, drop}
 use Rattle.lists.specs.Cut.{window}
 use Rattle.advances.specs.declared.Progress.{Progress}
 use Rattle.advances.specs.declared.Progress.the-variants as progress
-use Rattle.streams.specs.declared.Turn.{Turn}
+use Rattle.turns.specs.declared.Turn.{Turn}
 
 -- they stand between two places
 pub record AtHand (buffer : List ℕ) (from end : ℕ) : Type 0 where

@@ -9,7 +9,7 @@ use borrow.Rule.Slice.PartMut.{putMid, take-put}
 use lib.ListN.{length, take, drop, getD, set, length-set, length-drop}
 use lib.Seq.{take-suc, take-suc-set, drop-set-lt, drop-drop, getD-drop}
 use Rattle.lists.specs.Cut.{window}
-use Rattle.streams.specs.Streams.{Kept}
+use Rattle.turns.specs.Turns.{Kept}
 
 -- i of n bytes are at the front, and behind these nothing has changed
 pub record Moved (b₀ : List ℕ) (from n : ℕ) (b : List ℕ) (i : ℕ) : Type 0 where

@@ -1,11 +1,11 @@
--- `streams::refill` meets its contract: what is read is put behind the bytes that are kept.
+-- `turns::refill` meets its contract: what is read is put behind the bytes that are kept.
 -- Assumes nothing.
 use Prim.Native.Nat.{_+_, _-_}
 use native.Mathlib.Omega.{arith}
 use borrow.Author.Needs.{needs}
-use Rattle.streams.proofs.Shifting.{kept-behind}
-use Rattle.streams.proofs.refill.Statement.{statement}
-use Rattle.streams.proofs.refill.Tie as tie
+use Rattle.turns.proofs.Shifting.{kept-behind}
+use Rattle.turns.proofs.refill.Statement.{statement}
+use Rattle.turns.proofs.refill.Tie as tie
 
 shift-requires : tie.Need-shift-requires
 shift-requires c κs = search needs

@@ -1,11 +1,11 @@
--- `streams::shift` meets its contract. The invariant: so many bytes are at the front, and behind them nothing has changed.
+-- `turns::shift` meets its contract. The invariant: so many bytes are at the front, and behind them nothing has changed.
 -- Assumes nothing.
 use mathlib.Core.Path.{refl}
 use Prim.Native.Nat.{_-_}
 use native.Mathlib.Omega.{arith}
-use Rattle.streams.proofs.Shifting.{Moved, moved-none, moved-one, moved-all}
-use Rattle.streams.proofs.shift.Statement.{statement}
-use Rattle.streams.proofs.shift.Tie as tie
+use Rattle.turns.proofs.Shifting.{Moved, moved-none, moved-one, moved-all}
+use Rattle.turns.proofs.shift.Statement.{statement}
+use Rattle.turns.proofs.shift.Tie as tie
 
 abbrev Inv-loop : tie.InvT-loop
 Inv-loop buffer₀ from end n i₀ buffer i = Moved buffer₀ from n buffer i

@@ -1,14 +1,14 @@
--- `streams::follow` meets its contract, answer by answer: no step goes further than what is at hand, and what it left is there behind it.
+-- `turns::follow` meets its contract, answer by answer: no step goes further than what is at hand, and what it left is there behind it.
 -- Assumes nothing.
 use mathlib.Core.Path.{sym, ap}
 use Prim.Native.Nat.{_+_, _≤_}
 use native.Mathlib.Omega.{arith}
 use borrow.Author.Needs.{needs}
 use lib.Seq.{length-take-le}
-use Rattle.streams.specs.Streams.{handed, leftBy}
-use Rattle.streams.proofs.Turning.{went-within, turned-on, turned-off, turned-more}
-use Rattle.streams.proofs.follow.Statement.{statement}
-use Rattle.streams.proofs.follow.Tie as tie
+use Rattle.turns.specs.Turns.{handed, leftBy}
+use Rattle.turns.proofs.Turning.{went-within, turned-on, turned-off, turned-more}
+use Rattle.turns.proofs.follow.Statement.{statement}
+use Rattle.turns.proofs.follow.Tie as tie
 
 enum-told : tie.Need-enum-told
 enum-told c = search needs

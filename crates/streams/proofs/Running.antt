@@ -1,0 +1,76 @@
+-- Steps of a job, and what is at hand between them.
+-- Assumes nothing.
+use mathlib.Core.Path.{_≡_, refl}
+use mathlib.Core.Bool.{Bool, true, false}
+use mathlib.Core.List.{List}
+use Prim.Native.Nat.{ℕ, _+_, _*_, _-_, _≤_}
+use native.Mathlib.Omega.{arith}
+use lib.ListN.{length, drop, replicate, length-drop}
+use lib.Seq.{length-take-le}
+use Rattle.lists.specs.Cut.{window}
+use Rattle.catalogue.specs.Catalogue.{maxTargets}
+use Rattle.stream.specs.Commands.{maxStreamTargets, maxStreamBases}
+use Rattle.catch_rules.specs.Job.{Stage, streamEntries}
+use Rattle.supplying.specs.Supplying.{maxStreamNames}
+use Rattle.advances.specs.declared.Progress.{Progress}
+use Rattle.advances.specs.declared.Progress.the-variants as progress
+use Rattle.advances.specs.Advancing.{stepRoom, Tells}
+use Rattle.jobs.specs.declared.Job.{Job}
+use Rattle.jobs.specs.Jobs.{newJob, Buffers, buffersOf, stageOf, JobKept, JobAdvances}
+use Rattle.jobs.specs.declared.Advanced.{Advanced}
+use Rattle.turns.specs.Turns.{AtHand, Stepped, Steps, keptBack}
+
+-- ---- between steps
+
+pub record Runs (j : Job) (b : Buffers) (entries buffer out : List ℕ) (from end at : ℕ) : Type 0 where
+  pub kept : JobKept j b
+  pub places : length entries ≡ 4 * streamEntries
+  pub hand : AtHand buffer from end
+  pub input : length buffer ≡ 32768
+  pub output : length out ≡ 131072
+  pub room : at ≤ keptBack
+
+-- at the start nothing is read
+abbrev pub zeros : List ℕ
+zeros = replicate maxStreamTargets 0
+
+pub new-kept : (is bs ranked ks rs os : List ℕ) → length is ≡ maxStreamNames → length bs ≡ maxStreamBases → length ranked ≡ maxTargets
+    → length ks ≡ maxStreamBases → length rs ≡ maxStreamBases → length os ≡ maxStreamBases
+    → JobKept newJob (buffersOf is zeros bs zeros zeros ranked ks rs os zeros zeros zeros)
+new-kept is bs ranked ks rs os i b r k s o =
+    record {
+      supply = record { targets = omega arith; names = omega arith; bases = omega arith; identifiers = i; identifierEnds = refl; sequences = b; baseEnds = refl; marks = refl };
+      ranked = r;
+      keys = k;
+      ranks = s;
+      positions = o;
+      placements = refl;
+      singles = refl;
+      multi = refl;
+      at-stage = (refl, refl);
+    }
+
+-- ---- from one to the next
+
+-- it goes no further than what it was lent
+told-within : (ended : Bool) (before after : Stage) (bytes text : List ℕ) (p : Progress) (from end : ℕ) → from ≤ end → length bytes ≡ end - from → Tells ended before bytes p text after → Stepped p from end
+told-within true before after bytes text (progress.Went n) from end h e t = omega (arith, t .0)
+told-within false before after bytes text (progress.Went n) from end h e t = omega (arith, t .0)
+told-within ended before after bytes text progress.Ended from end h e t = h
+told-within ended before after bytes text progress.More from end h e t = h
+
+module _ (j : Job) (b : Buffers) (entries buffer out : List ℕ) (from end at : ℕ) (runs : Runs j b entries buffer out from end at) where
+  -- a step has room for its lines
+  pub has-room : at + stepRoom ≤ length out
+  has-room = omega (arith, runs .room, runs .output)
+
+  -- what follows it has room for the bytes that were read
+  pub steps : (ended : Bool) (out′ : List ℕ) (r : Advanced) (b′ : Buffers) → length out′ ≡ 131072
+      → JobAdvances ended j b (window buffer from (end - from)) out at out′ r b′ → Steps buffer out′ (r .advance .progress) from end (r .advance .at)
+  steps ended out′ r b′ e a =
+      record {
+        hand = runs .hand;
+        went = told-within ended (stageOf j b) (stageOf (r .job) b′) (window buffer from (end - from)) (a .advances .text) (r .advance .progress) from end (runs .hand .ordered)
+            (length-take-le (end - from) (drop from buffer) (simp length-drop (omega (arith, runs .hand .within)))) (a .advances .told);
+        written = omega (arith, a .advances .adds .room, runs .room);
+      }

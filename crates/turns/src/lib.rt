@@ -1,0 +1,128 @@
+// What is done between two steps of a job: bytes read behind those at hand, and lines written.
+ghost use mathlib.Core.Path.{_≡_};
+ghost use Prim.Native.Nat.{_-_, _≤_};
+ghost use Rattle.promises.specs.Slice.{old, new};
+ghost use Rattle.turns.specs.Turns.{AtHand, Kept, Refilled, Steps, Turned};
+use advances::Progress;
+
+// How many bytes are at hand, and whether the input has ended or could not be read.
+pub struct Filled {
+    pub end: usize,
+    pub ended: bool,
+    pub failed: bool,
+}
+
+// What is at hand behind a step, and where the output ends; or all is done.
+pub struct Turn {
+    pub done: bool,
+    pub from: usize,
+    pub end: usize,
+    pub ended: bool,
+    pub at: usize,
+}
+
+// Moves the bytes from one place up to another to the front, and tells how many there are.
+fn shift(buffer: &mut [u8], from: usize, end: usize) -> usize
+    requires { ⌜ AtHand (now buffer) from end ⌝ }
+    ensures { λ r. ⌜ (r ≡ end - from) × Kept (old buffer) from (new buffer) r ⌝ }
+{
+    let n = end - from;
+    let mut i: usize = 0;
+    while i < n {
+        buffer[i] = buffer[from + i];
+        i += 1;
+    }
+    n
+}
+
+// The lesser of two numbers.
+fn least(a: usize, b: usize) -> usize
+    ensures { λ r. ⌜ (r ≤ a) × (r ≤ b) ⌝ }
+{
+    if a < b { a } else { b }
+}
+
+// Moves the bytes at hand to the front, and reads up to `piece` bytes behind them.
+fn refill(buffer: &mut [u8], from: usize, end: usize, input: i32, piece: usize) -> Filled
+    requires { ⌜ AtHand (now buffer) from end ⌝ }
+    ensures { λ r. ⌜ Refilled (old buffer) from end (new buffer) (r .end) ⌝ }
+{
+    let kept = shift(buffer, from, end);
+    let upto = kept + least(buffer.len() - kept, piece);
+    let got = libc::read(input, &mut buffer[kept..upto]);
+    let n = io::count(got, &buffer[kept..upto]);
+    Filled {
+        end: kept + n,
+        ended: n == 0,
+        failed: got < 0,
+    }
+}
+
+// What follows a step: on behind the bytes that it went, or the end, or more input. Output is written where the next step
+// might lack room, and before more input is waited for.
+pub fn follow(
+    buffer: &mut [u8],
+    out: &[u8],
+    at: usize,
+    progress: Progress,
+    from: usize,
+    end: usize,
+    ended: bool,
+    input: i32,
+    output: i32,
+    piece: usize,
+) -> Turn
+    requires { ⌜ Steps (now buffer) (now out) progress from end at ⌝ }
+    ensures { λ r. ⌜ Turned (old buffer) progress from end (new buffer) r ⌝ }
+{
+    match progress {
+        Progress::Ended => {
+            io::write_all(output, &out[..at]);
+            Turn {
+                done: true,
+                from,
+                end,
+                ended,
+                at: 0,
+            }
+        }
+        Progress::Went(n) => {
+            let next = from + n;
+            if at <= 32768 {
+                return Turn {
+                    done: false,
+                    from: next,
+                    end,
+                    ended,
+                    at,
+                };
+            }
+            Turn {
+                done: !io::write_all(output, &out[..at]),
+                from: next,
+                end,
+                ended,
+                at: 0,
+            }
+        }
+        Progress::More => {
+            if !io::write_all(output, &out[..at]) {
+                return Turn {
+                    done: true,
+                    from,
+                    end,
+                    ended,
+                    at: 0,
+                };
+            }
+            let filled = refill(buffer, from, end, input, piece);
+            Turn {
+                done: filled.failed,
+                from: 0,
+                end: filled.end,
+                ended: filled.ended,
+                at: 0,
+            }
+        }
+    }
+}
