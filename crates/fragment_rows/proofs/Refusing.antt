@@ -1,6 +1,6 @@
--- Rows written one after the other: refusals, and the rows of one or two reads.
+-- Rows written one after the other: refusals, and the rows of two reads.
 -- Assumes nothing.
-use mathlib.Core.Path.{_≡_, refl, sym, ap, ap₂, _∙_}
+use mathlib.Core.Path.{_≡_, refl, ap, ap₂, _∙_}
 use mathlib.Core.List.{List, [], _∷_, _++_}
 use Prim.Native.Nat.{ℕ, zero, suc, _+_, _*_, _<_, _≤_}
 use native.Mathlib.Omega.{arith}
@@ -13,7 +13,7 @@ use Rattle.answers.specs.Answer.{Row}
 use Rattle.rows.specs.Rows.{rowNumbers}
 use Rattle.fragment_lists.specs.Listed.{refusedRows, rowsIn}
 
-refused-long : (k n : ℕ) → length (refusedRows k n) ≡ 8 * n
+pub refused-long : (k n : ℕ) → length (refusedRows k n) ≡ 8 * n
 refused-long k zero = refl
 refused-long k (suc n) = omega (arith, refused-long k n)
 
@@ -33,8 +33,8 @@ pub record Refusing (at n k : ℕ) (before : List ℕ) (i : ℕ) (buffer : List 
   pub long : length buffer ≡ length before
 
 module _ (at n k : ℕ) (b : List ℕ) where
-  pub refusing-start : Refusing at n k b 0 b
-  refusing-start = record { upto = omega arith; content = placed-none (8 * at) b; long = refl }
+  pub refusing-start : (i : ℕ) → i ≡ 0 → Refusing at n k b i b
+  refusing-start i z = record { upto = omega arith; content = rw z (placed-none (8 * at) b); long = refl }
 
   module _ (i : ℕ) (now : List ℕ) (r : Refusing at n k b i now) where
     pub refusing-next : i < n → 8 * (at + n) ≤ length b → (next : List ℕ) → next ≡ placed (8 * (at + i)) (rowNumbers (refused k)) now → Refusing at n k b (i + 1) next

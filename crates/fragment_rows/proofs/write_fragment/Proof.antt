@@ -2,6 +2,7 @@
 -- Assumes nothing.
 use native.Mathlib.Omega.{arith}
 use Prim.Native.Nat.{_*_}
+use Rattle.audit_rules.specs.Calls.{mappingRow}
 use Rattle.fragment_rows.proofs.Refusing.{refused-room, two-put}
 use borrow.Author.Needs.{needs}
 use Rattle.fragment_rows.proofs.write_fragment.Statement.{statement}
@@ -11,7 +12,7 @@ enum-known-answer : tie.Need-enum-known-answer
 enum-known-answer c = search needs
 
 write-refusals-requires : tie.Need-write-refusals-requires
-write-refusals-requires c κs = let z = c .before .before .before .before .before in refused-room (z .args .at) (z .args .n) _ _ (rw (c .before .before .answer .given .1) at (z .pre))
+write-refusals-requires c κs = let z = c .before .before .before .before .before in omega (arith, refused-room (z .args .at) (z .args .n) _ _ (rw (c .before .before .answer .given .1) at (z .pre)))
 
 enum-known-answer-2 : tie.Need-enum-known-answer-2
 enum-known-answer-2 c = search needs
@@ -58,7 +59,9 @@ same-length-3 c = search needs
 returns-3 : tie.Need-returns-3
 returns-3 c =
     let z = c .before .before .before .before .before .before .before .before .before .before .before .before .before .before in
-    rw (c .before .before .before .before .before .before .before .before .before .before .before .answer3 .given .1) (two-put (8 * z .args .at) (z .args .rows .now) _ _ _ _ (omega (arith, rw (c .before .before .before .before .before .before .before .before .before .before .before .answer3 .given .1) at (z .pre))) (c .before .before .before .before .before .before .write-row2 .ensures) (c .before .before .write-row3 .ensures))
+    let told = c .before .before .before .before .before .before .before .before .before .before .before .answer3 .given in
+    let m = told .0 .0 in
+    rw (told .1) (two-put (8 * z .args .at) (z .args .rows .now) _ _ (mappingRow (m .first)) (mappingRow (m .second)) (omega (arith, rw (told .1) at (z .pre))) (c .before .before .before .before .before .before .write-row2 .ensures) (c .before .before .write-row3 .ensures))
 
 pub write-fragment-spec : {M : Type 1} → statement M
 write-fragment-spec =

@@ -14,7 +14,7 @@ abbrev μ-loop : tie.MeasureT-loop
 μ-loop rows₀ at n number i₀ rows i = n - i
 
 loop-holds : tie.Need-loop-holds Inv-loop μ-loop
-loop-holds c = let a = c .before .args in refusing-start (a .at) (a .n) (a .number) (a .rows .now)
+loop-holds c = let a = c .before .args in refusing-start (a .at) (a .n) (a .number) (a .rows .now) _ (omega arith)
 
 add-write-row : tie.Need-add-write-row Inv-loop μ-loop
 add-write-row c = omega (arith, c .before .before .before .before .pre, c .before .before .loop .inv .long, c .before .loop-test .taken)
