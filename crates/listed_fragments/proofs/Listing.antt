@@ -128,8 +128,8 @@ module _ (offset : ℕ) (ss : List (List ℕ)) (way : Way) (ranked : List ℕ) (
               ap₂ (λ x y. callsOf lent width (drop (width * i) es) (fragmentsFrom l at x y)) (drop-cons os i 0 more) some-left
               ∙ ap₂ (λ b n. call ∷ callsOf lent width b (fragmentsFrom l (at + count) (drop n os) (drop n ns))) (next-share es ∙ sym behind-share) (sym (add-one i))
 
-          pub step : Going h₀ es₀ (i + 1) (at + count) h′ rows′ es′
-          step =
+          gone : Going h₀ es₀ (i + 1) (at + count) h′ rows′ es′
+          gone =
               record {
                 within = omega arith;
                 counted = omega (arith, g .counted, ap sum some-left, ap (λ n. sum (drop n ns)) (add-one i));
@@ -149,6 +149,9 @@ module _ (offset : ℕ) (ss : List (List ℕ)) (way : Way) (ranked : List ℕ) (
                 entries-long = ap length (f .left) ∙ length-placed (width * i) share es share-fits ∙ g .entries-long;
                 alike = onwards (g .alike) (subst (Alike h) (sym (f .held)) (next-alike offset ss way ranked h call));
               }
+
+          pub step : (j to : ℕ) → j ≡ i + 1 → to ≡ at + count → Going h₀ es₀ j to h′ rows′ es′
+          step j to e n = subst (λ y. Going h₀ es₀ j y h′ rows′ es′) (sym n) (subst (λ x. Going h₀ es₀ x (at + count) h′ rows′ es′) (sym e) gone)
 
       -- all are done
       pub done : length os ≤ i → ListAudited offset ss way ranked h₀ (callsOf lent width es₀ (fragmentsFrom l 0 os ns)) (width * length os) (h .state) (h .counters) rows es₀ es

@@ -93,8 +93,9 @@ fn audit_listed(
         state,
     );
     let answer = audit.answer;
+    let after = audit.state;
     write_fragment(rows, at, count, answer);
-    audit.state
+    after
 }
 
 // Audits every fragment, each with `width` numbers of the entries, and writes the rows of all reads.

@@ -116,7 +116,7 @@ fn total(n: &AvailabilityU64) -> String {
 }
 
 /// The number of a state by its word.
-fn state_of(word: &str) -> u64 {
+pub fn state_of(word: &str) -> u64 {
     let states = [
         ReadState::NotRequested,
         ReadState::IneligibleAmbiguityOrQuality,

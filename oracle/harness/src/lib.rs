@@ -1,9 +1,13 @@
 //! The two sides, the rules in plain words, and random inputs.
 
+pub mod audits;
 pub mod inputs;
 pub mod jobs;
+pub mod model_audit;
 #[rustfmt::skip]
 pub mod ours;
+#[rustfmt::skip]
+pub mod ours_audit;
 pub mod rules;
 pub mod theirs;
 

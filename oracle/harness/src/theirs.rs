@@ -2,7 +2,7 @@
 
 use crate::{Catalogue, MOST_LIMIT};
 use std::collections::HashMap;
-use veritasm::audit::ReadState;
+use veritasm::audit::{PlacementGroup, ReadState};
 use veritasm::error::VeritasmError;
 use veritasm::indexed_mapper::{IndexedExactMapper, IndexedMapperConfig};
 use veritasm::model::{AvailabilityU64, Topology, Unitig};
@@ -104,7 +104,7 @@ impl<'a> Mapper<'a> {
         let w = m.work;
         Ok(Answer {
             state: state_number(m.state),
-            groups: groups.iter().map(|g| [self.places[g.unitig_id.as_str()], g.start, g.end, u64::from(g.strand == '-')]).collect(),
+            groups: self.entries(&groups),
             work: [
                 w.seed_lookups,
                 w.selected_seed_hits,
@@ -113,6 +113,11 @@ impl<'a> Mapper<'a> {
                 w.verified_placement_groups_seen,
             ],
         })
+    }
+
+    /// Groups as entries: the supplied place of the target, start, end, strand.
+    pub fn entries(&self, groups: &[PlacementGroup]) -> Vec<[u64; 4]> {
+        groups.iter().map(|g| [self.places[g.unitig_id.as_str()], g.start, g.end, u64::from(g.strand == '-')]).collect()
     }
 
     /// The postings of a seed as (supplied place, position): its groups on '+'.

@@ -66,8 +66,8 @@ audit-tested-requires c κs = c .before .before .before .before .before .before 
 
 write-fragment-requires : tie.Need-write-fragment-requires
 write-fragment-requires c κs =
-    let z = c .before .before .before .before .before .before .before .before .before .before .before .before .before .before .before .before .before .before .before .before .before .before .before .before .before .before .before .before .before .before .before .before .before .before .before .before .before .before .before .before .before .args in
-    rows-room _ _ _ _ _ none (readLists (z .roles .now) (z .reads .now) (z .read-ends .now) (z .marks .now) (z .qualities .now) (z .quality-ends .now)) (z .ordinal) (z .at) (z .count) (z .i) (z .width) (z .rows .now) (z .entries .now) (c .before .before .before .before .before .before .before .before .before .before .before .before .before .before .before .before .before .before .before .before .before .before .before .before .before .before .before .before .before .before .before .before .before .before .before .before .before .before .before .before .before .pre .1 .1 .0) _ _ (read-is (readLists (z .roles .now) (z .reads .now) (z .read-ends .now) (z .marks .now) (z .qualities .now) (z .quality-ends .now)) (z .at) _ _ _ _ _ (c .before .before .before .before .before .before .before .before .before .before .before .before .before .before .before .before .before .before .role-of .ensures) (c .before .before .before .before .before .before .before .before .before .before .before .before .before .before .before .before .before .before .before .byte-or-zero .ensures) (c .before .before .before .before .before .before .before .before .before .before .before .before .before .before .before .before .before .before .before .before .before .before .before .sequence-or-none .ensures) (c .before .before .before .before .before .before .before .before .before .before .before .before .before .before .before .byte-or-zero3 .ensures) (c .before .before .before .before .before .before .before .before .before .before .before .before .before .before .before .before .before .before .before .before .before .before .sequence-or-none2 .ensures)) (read-is (readLists (z .roles .now) (z .reads .now) (z .read-ends .now) (z .marks .now) (z .qualities .now) (z .quality-ends .now)) (z .at + 1) _ _ _ _ _ (c .before .before .before .before .before .before .before .before .before .before .before .before .before .before .before .before .role-of2 .ensures) (c .before .before .before .before .before .before .before .before .before .before .before .before .before .before .before .before .before .byte-or-zero2 .ensures) (c .before .before .before .before .before .before .before .before .before .before .before .before .before .before .before .before .before .before .before .before .before .sequence-or-none3 .ensures) (c .before .before .before .before .before .before .before .before .before .before .before .before .before .before .byte-or-zero4 .ensures) (c .before .before .before .before .before .before .before .before .before .before .before .before .before .before .before .before .before .before .before .before .sequence-or-none4 .ensures)) _ _ _ (c .before .before .before .before .before .before .before .before .before .audit-tested .ensures) (c .before .before .before .before .before .before .before .before .before .before .before .before .before .before .before .before .before .before .before .before .before .before .before .before .before .before .before .before .before .before .before .before .before .before .before .before .before .before .before .before .before .pre .1 .1 .1)
+    let z = c .before .before .before .before .before .before .before .before .before .before .before .before .before .before .before .before .before .before .before .before .before .before .before .before .before .before .before .before .before .before .before .before .before .before .before .before .before .before .before .before .before .before .args in
+    rows-room _ _ _ _ _ none (readLists (z .roles .now) (z .reads .now) (z .read-ends .now) (z .marks .now) (z .qualities .now) (z .quality-ends .now)) (z .ordinal) (z .at) (z .count) (z .i) (z .width) (z .rows .now) (z .entries .now) (c .before .before .before .before .before .before .before .before .before .before .before .before .before .before .before .before .before .before .before .before .before .before .before .before .before .before .before .before .before .before .before .before .before .before .before .before .before .before .before .before .before .before .pre .1 .1 .0) _ _ (read-is (readLists (z .roles .now) (z .reads .now) (z .read-ends .now) (z .marks .now) (z .qualities .now) (z .quality-ends .now)) (z .at) _ _ _ _ _ (c .before .before .before .before .before .before .before .before .before .before .before .before .before .before .before .before .before .before .before .role-of .ensures) (c .before .before .before .before .before .before .before .before .before .before .before .before .before .before .before .before .before .before .before .before .byte-or-zero .ensures) (c .before .before .before .before .before .before .before .before .before .before .before .before .before .before .before .before .before .before .before .before .before .before .before .before .sequence-or-none .ensures) (c .before .before .before .before .before .before .before .before .before .before .before .before .before .before .before .before .byte-or-zero3 .ensures) (c .before .before .before .before .before .before .before .before .before .before .before .before .before .before .before .before .before .before .before .before .before .before .before .sequence-or-none2 .ensures)) (read-is (readLists (z .roles .now) (z .reads .now) (z .read-ends .now) (z .marks .now) (z .qualities .now) (z .quality-ends .now)) (z .at + 1) _ _ _ _ _ (c .before .before .before .before .before .before .before .before .before .before .before .before .before .before .before .before .before .role-of2 .ensures) (c .before .before .before .before .before .before .before .before .before .before .before .before .before .before .before .before .before .before .byte-or-zero2 .ensures) (c .before .before .before .before .before .before .before .before .before .before .before .before .before .before .before .before .before .before .before .before .before .before .sequence-or-none3 .ensures) (c .before .before .before .before .before .before .before .before .before .before .before .before .before .before .before .byte-or-zero4 .ensures) (c .before .before .before .before .before .before .before .before .before .before .before .before .before .before .before .before .before .before .before .before .before .sequence-or-none4 .ensures)) _ _ _ (c .before .before .before .before .before .before .before .before .before .before .audit-tested .ensures) (c .before .before .before .before .before .before .before .before .before .before .before .before .before .before .before .before .before .before .before .before .before .before .before .before .before .before .before .before .before .before .before .before .before .before .before .before .before .before .before .before .before .before .pre .1 .1 .1)
 
 same-length : tie.Need-same-length
 same-length c = search needs
@@ -87,7 +87,7 @@ same-length-5 c = search needs
 returns : tie.Need-returns
 returns c =
     let z = c .before .before .before .before .before .before .before .before .before .before .before .before .before .before .before .before .before .before .before .before .before .before .before .before .before .before .before .before .before .before .before .before .before .before .before .before .before .before .before .before .before .before .before .before .before .args in
-    fragment-listed _ _ _ _ _ _ (readLists (z .roles .now) (z .reads .now) (z .read-ends .now) (z .marks .now) (z .qualities .now) (z .quality-ends .now)) (z .ordinal) (z .at) (z .count) (z .i) (z .width) (z .rows .now) (z .entries .now) (c .before .before .before .before .before .before .before .before .before .before .before .before .before .before .before .before .before .before .before .before .before .before .before .before .before .before .before .before .before .before .before .before .before .before .before .before .before .before .before .before .before .before .before .before .before .pre .1 .1 .0) _ _ (read-is (readLists (z .roles .now) (z .reads .now) (z .read-ends .now) (z .marks .now) (z .qualities .now) (z .quality-ends .now)) (z .at) _ _ _ _ _ (c .before .before .before .before .before .before .before .before .before .before .before .before .before .before .before .before .before .before .before .before .before .before .role-of .ensures) (c .before .before .before .before .before .before .before .before .before .before .before .before .before .before .before .before .before .before .before .before .before .before .before .byte-or-zero .ensures) (c .before .before .before .before .before .before .before .before .before .before .before .before .before .before .before .before .before .before .before .before .before .before .before .before .before .before .before .sequence-or-none .ensures) (c .before .before .before .before .before .before .before .before .before .before .before .before .before .before .before .before .before .before .before .byte-or-zero3 .ensures) (c .before .before .before .before .before .before .before .before .before .before .before .before .before .before .before .before .before .before .before .before .before .before .before .before .before .before .sequence-or-none2 .ensures)) (read-is (readLists (z .roles .now) (z .reads .now) (z .read-ends .now) (z .marks .now) (z .qualities .now) (z .quality-ends .now)) (z .at + 1) _ _ _ _ _ (c .before .before .before .before .before .before .before .before .before .before .before .before .before .before .before .before .before .before .before .before .role-of2 .ensures) (c .before .before .before .before .before .before .before .before .before .before .before .before .before .before .before .before .before .before .before .before .before .byte-or-zero2 .ensures) (c .before .before .before .before .before .before .before .before .before .before .before .before .before .before .before .before .before .before .before .before .before .before .before .before .before .sequence-or-none3 .ensures) (c .before .before .before .before .before .before .before .before .before .before .before .before .before .before .before .before .before .before .byte-or-zero4 .ensures) (c .before .before .before .before .before .before .before .before .before .before .before .before .before .before .before .before .before .before .before .before .before .before .before .before .sequence-or-none4 .ensures)) _ _ _ (c .before .before .before .before .before .before .before .before .before .before .before .before .before .audit-tested .ensures) _ (c .before .before .before .write-fragment .ensures)
+    fragment-listed _ _ _ _ _ _ (readLists (z .roles .now) (z .reads .now) (z .read-ends .now) (z .marks .now) (z .qualities .now) (z .quality-ends .now)) (z .ordinal) (z .at) (z .count) (z .i) (z .width) (z .rows .now) (z .entries .now) (c .before .before .before .before .before .before .before .before .before .before .before .before .before .before .before .before .before .before .before .before .before .before .before .before .before .before .before .before .before .before .before .before .before .before .before .before .before .before .before .before .before .before .before .before .before .pre .1 .1 .0) _ _ (read-is (readLists (z .roles .now) (z .reads .now) (z .read-ends .now) (z .marks .now) (z .qualities .now) (z .quality-ends .now)) (z .at) _ _ _ _ _ (c .before .before .before .before .before .before .before .before .before .before .before .before .before .before .before .before .before .before .before .before .before .before .role-of .ensures) (c .before .before .before .before .before .before .before .before .before .before .before .before .before .before .before .before .before .before .before .before .before .before .before .byte-or-zero .ensures) (c .before .before .before .before .before .before .before .before .before .before .before .before .before .before .before .before .before .before .before .before .before .before .before .before .before .before .before .sequence-or-none .ensures) (c .before .before .before .before .before .before .before .before .before .before .before .before .before .before .before .before .before .before .before .byte-or-zero3 .ensures) (c .before .before .before .before .before .before .before .before .before .before .before .before .before .before .before .before .before .before .before .before .before .before .before .before .before .before .sequence-or-none2 .ensures)) (read-is (readLists (z .roles .now) (z .reads .now) (z .read-ends .now) (z .marks .now) (z .qualities .now) (z .quality-ends .now)) (z .at + 1) _ _ _ _ _ (c .before .before .before .before .before .before .before .before .before .before .before .before .before .before .before .before .before .before .before .before .role-of2 .ensures) (c .before .before .before .before .before .before .before .before .before .before .before .before .before .before .before .before .before .before .before .before .before .byte-or-zero2 .ensures) (c .before .before .before .before .before .before .before .before .before .before .before .before .before .before .before .before .before .before .before .before .before .before .before .before .before .sequence-or-none3 .ensures) (c .before .before .before .before .before .before .before .before .before .before .before .before .before .before .before .before .before .before .byte-or-zero4 .ensures) (c .before .before .before .before .before .before .before .before .before .before .before .before .before .before .before .before .before .before .before .before .before .before .before .before .sequence-or-none4 .ensures)) _ _ _ (c .before .before .before .before .before .before .before .before .before .before .before .before .before .audit-tested .ensures) _ (c .before .before .write-fragment .ensures)
 
 pub audit-listed-spec : {M : Type 1} → statement M
 audit-listed-spec =

@@ -1,10 +1,11 @@
-//! Writes a sample of the Rust's answers as the input and the expected output of the program `rust_cases`: sample FOLDER.
+//! A sample of reads that the Rust maps, for the program `rust_cases`.
 
+use crate::blocks::{self, two, Blocks};
 use harness::inputs::{catalogue, read, seed_length, Rng};
 use harness::theirs::{self, Mapper, INDETERMINATE};
 use harness::{rules, Catalogue, MOST_LIMIT};
 use std::collections::HashMap;
-use std::{env, fmt::Write, fs, path::Path};
+use std::fmt::Write;
 
 /// How many cases, and how many of one kind at most.
 const CASES: usize = 4000;
@@ -15,18 +16,20 @@ const TARGETS: usize = 16;
 const COLUMN: usize = 256;
 const ENTRIES: usize = 256;
 
-/// The program reads blocks of so many bytes, and no case goes over the end of one.
 const BLOCK: usize = 131072;
+const LEAST: usize = 32;
 
 /// What fills a block up: a call with nothing in it, which seed length 0 refuses, and zeros behind it.
-const LEAST: usize = 34;
+fn filler(n: usize) -> Vec<u8> {
+    vec![0; n]
+}
 
 /// Numbers of two bytes, the low one first; `case_calls` says in which order.
 fn written(c: &Catalogue, q: usize, read: &[u8], limit: u64, entries: usize, postings: usize) -> Vec<u8> {
     let limits = [(limit % 65536) as usize, (limit / 65536) as usize];
     let lengths = [c.identifiers.len(), c.identifier_ends.len(), c.bases.len(), c.base_ends.len(), c.marks.len(), read.len()];
     let head = [q, limits[0], limits[1], entries, postings, postings, postings, 0, 0, 0];
-    let numbers = |xs: &[usize]| xs.iter().flat_map(|&x| (x as u16).to_le_bytes()).collect::<Vec<u8>>();
+    let numbers = |xs: &[usize]| xs.iter().flat_map(|&x| two(x)).collect::<Vec<u8>>();
     [
         &numbers(&head)[..],
         &numbers(&lengths),
@@ -54,10 +57,9 @@ fn lent(rng: &mut Rng, matches: u64) -> (u64, usize) {
     (limit, 4 * (needed + rng.below(3)) + rng.below(4))
 }
 
-fn main() {
-    let folder = env::args().nth(1).expect("sample FOLDER");
+pub fn write(folder: &str) {
     let mut rng = Rng(2);
-    let (mut cases, mut lines) = (Vec::new(), String::new());
+    let (mut cases, mut lines) = (Blocks::new(BLOCK, LEAST, filler), String::new());
     let mut kinds: HashMap<_, usize> = HashMap::new();
     let mut states = [0; 6];
     let mut n = 0;
@@ -90,14 +92,9 @@ fn main() {
             n += 1;
             states[a.state as usize] += 1;
             let case = written(&c, q, &read, limit, entries, postings);
-            let room = BLOCK - cases.len() % BLOCK;
-            if room < case.len() + 2 + LEAST {
-                cases.extend((room as u16 - 2).to_le_bytes());
-                cases.resize(cases.len() + room - 2, 0);
+            if cases.push(&case) {
                 lines += "refused 1\nentries\n";
             }
-            cases.extend((case.len() as u16).to_le_bytes());
-            cases.extend(case);
             let listed = if a.state == INDETERMINATE { &[] } else { a.groups.as_flattened() };
             let whole = entries / 4 * 4;
             let numbers = (0..entries).map(|i| if i < whole { *listed.get(i).unwrap_or(&0) } else { 999 });
@@ -106,8 +103,6 @@ fn main() {
             writeln!(lines, "entries{}", numbers.fold(String::new(), |text, x| text + " " + &x.to_string())).unwrap();
         }
     }
-    fs::write(Path::new(&folder).join("stdin"), &cases).expect("stdin is written");
-    fs::write(Path::new(&folder).join("stdout"), &lines).expect("stdout is written");
     println!(
         "{n} cases of {} kinds; indeterminate {}, unmapped {}, single {}, multiple {}",
         kinds.len(),
@@ -116,5 +111,5 @@ fn main() {
         states[4],
         states[5]
     );
-    println!("{} bytes in, {} bytes out", cases.len(), lines.len());
+    blocks::write(folder, &cases, &lines);
 }
