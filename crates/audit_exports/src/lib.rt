@@ -14,6 +14,11 @@ use numbered_calls::fragment::fragment_numbers;
 use numbered_calls::open::open_numbers;
 use numbered_lists::fragments_numbers;
 
+// By the index, or plain.
+const INDEXED: bool = true;
+
+const PLAIN: bool = false;
+
 // `audit::open::open`, with the state that a run starts from.
 #[no_mangle]
 pub extern "C" fn jekaumeo_open(
@@ -50,7 +55,7 @@ pub extern "C" fn jekaumeo_open(
         bases,
         base_ends,
         marks,
-        true,
+        INDEXED,
         mode,
         remap,
         floor,
@@ -93,7 +98,7 @@ pub extern "C" fn jekaumeo_plain_open(
         bases,
         base_ends,
         marks,
-        false,
+        PLAIN,
         mode,
         remap,
         floor,
@@ -159,7 +164,7 @@ pub extern "C" fn jekaumeo_fragment(
         second_mark,
         ordinal,
         count,
-        true,
+        INDEXED,
     )
 }
 
@@ -220,7 +225,7 @@ pub extern "C" fn jekaumeo_plain_fragment(
         second_mark,
         ordinal,
         count,
-        false,
+        PLAIN,
     )
 }
 
@@ -315,7 +320,7 @@ pub extern "C" fn jekaumeo_finish(
         base_ends,
         marks,
         state,
-        true,
+        INDEXED,
     )
 }
 
@@ -352,7 +357,7 @@ pub extern "C" fn jekaumeo_plain_finish(
         base_ends,
         marks,
         state,
-        false,
+        PLAIN,
     )
 }
 

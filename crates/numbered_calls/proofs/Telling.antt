@@ -40,6 +40,9 @@ use Rattle.numbered_calls.specs.Calls.{settingsOf, CodedFragment, codesR
 told-number : {A : Type 0} (n : ℕ) (a : A) (o : Outcome A) → o ≡ outcome n a → numberOf o ≡ n
 told-number n a o e = ap numberOf e ∙ number-is n a
 
+pub accepted-number : (a : CallAnswer) (r : ℕ) → a ≡ calls.Accepted → r ≡ 0 → r ≡ numberOf (callOutcome a)
+accepted-number a r e z = rw e z
+
 -- ---- a role and a mark
 
 module _ (role mark : ℕ) where
@@ -84,7 +87,7 @@ module _ (c : Catalogue) (lent : IndexLent) (k : Counters) (mode remap floor lim
 -- ---- fragment
 
 -- the first number of the rows is the refusal, and there is room for two rows
-pub first-number : (x : FragmentAnswer) (b : List ℕ) → getD (placed 0 (fragmentRows 2 (fragmentOutcome x)) b) 0 0 ≡ numberOf (fragmentOutcome x)
+first-number : (x : FragmentAnswer) (b : List ℕ) → getD (placed 0 (fragmentRows 2 (fragmentOutcome x)) b) 0 0 ≡ numberOf (fragmentOutcome x)
 first-number (fragments.Refused n) b = refl
 first-number (fragments.Single m) b = refl
 first-number (fragments.Paired m) b = refl
@@ -93,6 +96,9 @@ pub two-rows : (x : FragmentAnswer) → length (fragmentRows 2 (fragmentOutcome 
 two-rows (fragments.Refused n) = omega arith
 two-rows (fragments.Single m) = omega arith
 two-rows (fragments.Paired m) = omega arith
+
+number-told : (x : FragmentAnswer) (n : ℕ) (rs : List Row) (b b′ : List ℕ) (r : ℕ) → fragmentOutcome x ≡ outcome n rs → b′ ≡ placed 0 (fragmentRows 2 (fragmentOutcome x)) b → r ≡ getD b′ 0 0 → r ≡ n
+number-told x n rs b b′ r e v h = h ∙ ap (λ l. getD l 0 0) v ∙ first-number x b ∙ told-number n rs (fragmentOutcome x) e
 
 rows-told : (x y : Outcome (List Row)) (b b′ : List ℕ) → b′ ≡ placed 0 (fragmentRows 2 x) b → x ≡ y → b′ ≡ placed 0 (fragmentRows 2 y) b
 rows-told x y b b′ v e = v ∙ ap (λ o. placed 0 (fragmentRows 2 o) b) e
@@ -142,7 +148,7 @@ module _ (c : Catalogue) (lent : IndexLent) (k : Counters) (f : CodedFragment) (
             let t = by-state f ns answer room one two true st in
             let b : Audits auditSeed auditOffset c lent (heldIn ns k) (fragmentIn f) entries a k′ entries′ = rw (es, e₁, e₂) at g in
             record {
-              number = rw t (n ∙ ap (λ l. getD l 0 0) v ∙ first-number (a .answer) answer ∙ told-number _ _ _ (b .answer));
+              number = rw t (number-told (a .answer) _ _ answer answer′ r (b .answer) v n);
               state = rw t (w ∙ ap (λ (h : Held). stateNumbers (h .state)) (b .held));
               counters = rw t (ap (λ (h : Held). h .counters) (b .held));
               told = rw t (rows-told _ _ answer answer′ v (b .answer));
