@@ -1,0 +1,395 @@
+//! Whole audits on both sides: by single calls, by lists, and plain with some reads turned round.
+
+use crate::buffer::{unless, Buffer};
+use crate::count::Count;
+use harness::audits::{Fragment, Read, Settings};
+use harness::model_audit::{self as model, Counters, LentFragment, LentFragments, LentRead, Targets};
+use harness::model_audit::{ROW_NUMBERS, SHEET_NUMBERS, STATE_NUMBERS};
+use harness::{ours_audit as ours, Catalogue, Columns};
+
+// ---- an audit
+
+/// One thing that is lent otherwise at a call.
+#[derive(Debug, Clone)]
+pub enum Flaw {
+    /// Other columns than the index.
+    Stale(Columns),
+    StateLength(usize),
+    /// A place and its number.
+    State(usize, u64),
+    /// A column and its length.
+    CountersLength(usize, usize),
+    /// A column, a target, its number.
+    Counter(usize, usize, u64),
+    AnswerLength(usize),
+    /// At the opening.
+    Settings(Settings),
+    /// Quality marks of a fragment's two reads.
+    Marks([u8; 2]),
+    /// How many reads a fragment is said to have.
+    Count(usize),
+    /// A list, and how many numbers there are for its rows.
+    List(LentFragments, usize),
+    /// At `apply_to_unitigs`: the targets now, the sheet.
+    Now(Catalogue),
+    SheetLength(usize),
+    Sheet(usize, u64),
+}
+
+/// A number of the state or of the counters that is changed before a call, and stays.
+#[derive(Debug, Clone, Copy)]
+pub enum Change {
+    State(usize, u64),
+    Counter(usize, usize, u64),
+}
+
+/// A fragment's call, and those before it with flaws: these get copies, so that nothing of them stays.
+#[derive(Debug, Clone, Default)]
+pub struct Call {
+    pub fragment: Fragment,
+    /// Which reads the plain audit gets turned round.
+    pub turns: [bool; 2],
+    /// Numbers of entries that the plain audit is lent.
+    pub plain_entries: usize,
+    pub changes: Vec<Change>,
+    pub flawed: Vec<Vec<Flaw>>,
+}
+
+/// A list of the fragments from the last one's end up to a place.
+#[derive(Debug, Clone, Default)]
+pub struct Piece {
+    pub until: usize,
+    pub entries: usize,
+    pub flawed: Vec<Vec<Flaw>>,
+}
+
+#[derive(Debug, Clone)]
+pub struct Audit {
+    pub c: Catalogue,
+    pub settings: Settings,
+    pub flawed_opening: Vec<Vec<Flaw>>,
+    pub calls: Vec<Call>,
+    pub pieces: Vec<Piece>,
+    pub changes: Vec<Change>,
+    pub flawed_finish: Vec<Vec<Flaw>>,
+    pub flawed_apply: Vec<Vec<Flaw>>,
+}
+
+/// Bases with each letter complemented in its case, and qualities, both reversed.
+pub fn turned(read: &Read) -> Read {
+    let complement = |b: &u8| b"ACGTacgt".iter().position(|x| x == b).map_or(*b, |i| b"TGCAtgca"[i]);
+    let bases = read.bases.iter().rev().map(complement).collect();
+    let qualities = read.qualities.as_ref().map(|q| q.iter().rev().copied().collect());
+    Read { role: read.role, bases, qualities }
+}
+
+/// What is lent for absent qualities, and for reads that are not there: nobody may look at it.
+const ABSENT: &[u8] = b"\x7f\x00 ";
+
+fn lent_read(read: &Read) -> LentRead {
+    let mark = u8::from(read.qualities.is_some());
+    LentRead { role: read.role, mark, bases: read.bases.clone(), qualities: read.qualities.clone().unwrap_or(ABSENT.to_vec()) }
+}
+
+fn lent_fragment(f: &Fragment) -> LentFragment {
+    let read = |i: usize| f.reads.get(i).map_or(LentRead { qualities: ABSENT.to_vec(), ..Default::default() }, lent_read);
+    LentFragment { ordinal: f.ordinal, count: f.reads.len(), reads: [read(0), read(1)] }
+}
+
+pub fn lent_list<'a>(fragments: impl Iterator<Item = &'a Fragment>) -> LentFragments {
+    let mut l = LentFragments::default();
+    for f in fragments {
+        l.ordinals.push(f.ordinal);
+        l.counts.push(f.reads.len() as u64);
+        for read in f.reads.iter().map(lent_read) {
+            l.roles.push(read.role);
+            l.reads.extend(read.bases);
+            l.read_ends.push(l.reads.len());
+            l.quality_marks.push(read.mark);
+            l.qualities.extend(read.qualities);
+            l.quality_ends.push(l.qualities.len());
+        }
+    }
+    l
+}
+
+// ---- what a run holds on our side and by the rules
+
+struct Held {
+    state: Buffer,
+    counters: [Buffer; 3],
+    rules_state: Vec<u64>,
+    rules_counters: Counters,
+}
+
+impl Held {
+    /// A pattern in every number, one counter of each kind for each target.
+    fn new(targets: usize) -> Self {
+        Self::of(Buffer::new(STATE_NUMBERS), [0; 3].map(|_| Buffer::new(targets)))
+    }
+
+    fn of(state: Buffer, counters: [Buffer; 3]) -> Self {
+        let rules_counters = [0, 1, 2].map(|i: usize| counters[i].numbers().to_vec());
+        Self { rules_state: state.numbers().to_vec(), rules_counters, state, counters }
+    }
+
+    fn set(&mut self, change: &Change) {
+        match *change {
+            Change::State(at, n) => self.state.put(at, n),
+            Change::Counter(column, at, n) => self.counters[column].put(at, n),
+        }
+        *self = Self::of(self.state.clone(), self.counters.clone());
+    }
+
+    /// A copy with these flaws.
+    fn flawed(&self, flaws: &[Flaw]) -> Self {
+        let (mut state, mut counters) = (self.state.clone(), self.counters.clone());
+        for flaw in flaws {
+            match *flaw {
+                Flaw::StateLength(n) => state = state.resized(n),
+                Flaw::CountersLength(column, n) => counters[column] = counters[column].resized(n),
+                Flaw::State(at, n) => state.put(at, n),
+                Flaw::Counter(column, at, n) => counters[column].put(at, n),
+                _ => {}
+            }
+        }
+        Self::of(state, counters)
+    }
+
+    fn lent(&mut self) -> (&mut [u64], [&mut [u64]; 3]) {
+        (self.state.lent(), self.counters.each_mut().map(|k| k.lent()))
+    }
+
+    fn same(&self) -> Result<(), String> {
+        let state = format!("the state {:?}, not {:?}", self.state.numbers(), self.rules_state);
+        unless(self.state.is(&self.rules_state), &state)?;
+        for i in 0..3 {
+            let column = format!("counters {i}: {:?}, not {:?}", self.counters[i].numbers(), self.rules_counters[i]);
+            unless(self.counters[i].is(&self.rules_counters[i]), &column)?;
+        }
+        Ok(())
+    }
+}
+
+fn refused(ours: u64, rules: u64) -> Result<(), String> {
+    unless(ours == rules, &format!("refusal {ours}, not {rules}"))
+}
+
+fn written(what: &str, ours: &Buffer, rules: &[u64]) -> Result<(), String> {
+    unless(ours.is(rules), &format!("{what} {:?}, not {rules:?}", ours.numbers()))
+}
+
+// ---- the calls, each made on both sides
+
+/// How an audit searches, and what it is lent for that.
+#[derive(Clone, Copy, PartialEq)]
+enum Way {
+    Index,
+    Plain,
+}
+
+struct Side<'a> {
+    t: &'a Targets<'a>,
+    way: Way,
+}
+
+/// What a fragment's call answered and left in its entries.
+pub struct Answered {
+    pub refusal: u64,
+    pub answer: Vec<u64>,
+    pub entries: Vec<u64>,
+}
+
+/// All that is seen of a run.
+pub struct Seen {
+    pub opening: u64,
+    pub calls: Vec<Answered>,
+    pub finish: u64,
+    pub sheet: Vec<u64>,
+    pub applied: u64,
+    pub rows: Vec<u64>,
+    pub state: Vec<u64>,
+    pub counters: Counters,
+}
+
+/// The first flaw of a kind.
+macro_rules! flaw {
+    ($flaws:expr, $kind:pat => $value:expr) => {
+        $flaws.iter().find_map(|flaw| match flaw {
+            $kind => Some($value),
+            _ => None,
+        })
+    };
+}
+
+impl Side<'_> {
+    fn columns<'b>(&'b self, flaws: &'b [Flaw]) -> Option<&'b Columns> {
+        let stale = flaw!(flaws, Flaw::Stale(columns) => columns);
+        (self.way == Way::Index).then_some(stale.unwrap_or(&self.t.index))
+    }
+
+    fn name(&self, index: &'static str, plain: &'static str) -> &'static str {
+        if self.way == Way::Index {
+            index
+        } else {
+            plain
+        }
+    }
+
+    fn open(&self, held: &mut Held, settings: &Settings, flaws: &[Flaw], count: &mut Count) -> Result<u64, String> {
+        let settings = flaw!(flaws, Flaw::Settings(s) => s).unwrap_or(settings);
+        let columns = self.columns(flaws);
+        let (state, counters) = held.lent();
+        let r = ours::open(state, counters, columns, self.t.c, settings);
+        let m = model::open(&mut held.rules_state, &mut held.rules_counters, self.t, columns, settings);
+        let name = self.name("open", "plain_open");
+        count.call(name, m);
+        refused(r, m).and(held.same()).map_err(|text| format!("{name}: {text}"))?;
+        Ok(m)
+    }
+
+    fn fragment(&self, held: &mut Held, f: &Fragment, entries: usize, flaws: &[Flaw], count: &mut Count) -> Result<Answered, String> {
+        let mut lent = lent_fragment(f);
+        if let Some(marks) = flaw!(flaws, Flaw::Marks(marks) => marks) {
+            (lent.reads[0].mark, lent.reads[1].mark) = (marks[0], marks[1]);
+        }
+        lent.count = flaw!(flaws, Flaw::Count(n) => *n).unwrap_or(lent.count);
+        let columns = self.columns(flaws);
+        let mut answer = Buffer::new(flaw!(flaws, Flaw::AnswerLength(n) => *n).unwrap_or(2 * ROW_NUMBERS));
+        let mut entries = Buffer::new(entries);
+        let (mut rules_answer, mut rules_entries) = (answer.numbers().to_vec(), entries.numbers().to_vec());
+        let (state, counters) = held.lent();
+        let r = ours::fragment(answer.lent(), state, entries.lent(), counters, columns, self.t.c, &lent);
+        let (state, counters) = (&mut held.rules_state, &mut held.rules_counters);
+        let m = model::fragment(&mut rules_answer, state, &mut rules_entries, counters, self.t, columns, &lent);
+        let name = self.name("fragment", "plain_fragment");
+        count.call(name, m);
+        refused(r, m)
+            .and(written("the answer", &answer, &rules_answer))
+            .and(written("the entries", &entries, &rules_entries))
+            .and(held.same())
+            .map_err(|text| format!("{name}, ordinal {}: {text}", f.ordinal))?;
+        Ok(Answered { refusal: r, answer: answer.numbers().to_vec(), entries: entries.numbers().to_vec() })
+    }
+
+    fn list(&self, held: &mut Held, l: &LentFragments, entries: usize, flaws: &[Flaw], count: &mut Count) -> Result<(), String> {
+        let (l, rows) = flaw!(flaws, Flaw::List(l, rows) => (l, *rows)).unwrap_or((l, ROW_NUMBERS * l.roles.len()));
+        let columns = self.columns(flaws).expect("lists are audited by the index");
+        let (mut rows, mut entries) = (Buffer::new(rows), Buffer::new(entries));
+        let (mut rules_rows, mut rules_entries) = (rows.numbers().to_vec(), entries.numbers().to_vec());
+        let (state, counters) = held.lent();
+        let r = ours::fragments(rows.lent(), state, entries.lent(), counters, columns, self.t.c, l);
+        let (state, counters) = (&mut held.rules_state, &mut held.rules_counters);
+        let m = model::fragments(&mut rules_rows, state, &mut rules_entries, counters, self.t, Some(columns), l);
+        count.call("fragments", m);
+        count.list(m, l, &rules_rows);
+        refused(r, m)
+            .and(written("the rows", &rows, &rules_rows))
+            .and(written("the entries", &entries, &rules_entries))
+            .and(held.same())
+            .map_err(|text| format!("fragments: {text}"))
+    }
+
+    fn finish(&self, held: &Held, flaws: &[Flaw], count: &mut Count) -> Result<(u64, Vec<u64>), String> {
+        let columns = self.columns(flaws);
+        let mut answer = Buffer::new(flaw!(flaws, Flaw::AnswerLength(n) => *n).unwrap_or(SHEET_NUMBERS));
+        let mut rules_answer = answer.numbers().to_vec();
+        let r = ours::finish(answer.lent(), held.counters.each_ref().map(|k| k.numbers()), columns, self.t.c, held.state.numbers());
+        let m = model::finish(&mut rules_answer, &held.rules_counters, self.t, columns, &held.rules_state);
+        let name = self.name("finish", "plain_finish");
+        count.call(name, m);
+        refused(r, m).and(written("the answer", &answer, &rules_answer)).and(held.same()).map_err(|text| format!("{name}: {text}"))?;
+        Ok((m, answer.numbers().to_vec()))
+    }
+
+    fn apply(&self, held: &Held, sheet: &[u64], flaws: &[Flaw], count: &mut Count) -> Result<(u64, Vec<u64>), String> {
+        let now = flaw!(flaws, Flaw::Now(c) => c).unwrap_or(self.t.c);
+        let mut sheet = sheet.to_vec();
+        for flaw in flaws {
+            match *flaw {
+                Flaw::SheetLength(n) => sheet.resize(n, 0),
+                Flaw::Sheet(at, n) if at < sheet.len() => sheet[at] = n,
+                _ => {}
+            }
+        }
+        let mut rows = Buffer::new(flaw!(flaws, Flaw::AnswerLength(n) => *n).unwrap_or(4 * now.marks.len()));
+        let mut rules_rows = rows.numbers().to_vec();
+        let counters = held.counters.each_ref().map(|k| k.numbers());
+        let r = ours::apply_to_unitigs(rows.lent(), counters, self.t.c, now, &sheet);
+        let m = model::apply_to_unitigs(&mut rules_rows, &held.rules_counters, self.t.c, now, &sheet);
+        count.call("apply_to_unitigs", m);
+        refused(r, m).and(written("the rows", &rows, &rules_rows)).and(held.same()).map_err(|text| format!("apply_to_unitigs: {text}"))?;
+        Ok((m, rows.numbers().to_vec()))
+    }
+
+    /// Opening, fragments one by one, `finish`, and the rows of the targets.
+    fn singly(&self, audit: &Audit, count: &mut Count) -> Result<Seen, String> {
+        let mut held = Held::new(audit.c.marks.len());
+        for flaws in &audit.flawed_opening {
+            self.open(&mut held.flawed(flaws), &audit.settings, flaws, count)?;
+        }
+        let opening = self.open(&mut held, &audit.settings, &[], count)?;
+        let mut calls = Vec::new();
+        for call in &audit.calls {
+            call.changes.iter().for_each(|change| held.set(change));
+            let (fragment, entries) = match self.way {
+                Way::Index => (call.fragment.clone(), call.fragment.entries),
+                Way::Plain => (call.turned(), call.plain_entries),
+            };
+            for flaws in &call.flawed {
+                self.fragment(&mut held.flawed(flaws), &fragment, entries, flaws, count)?;
+            }
+            calls.push(self.fragment(&mut held, &fragment, entries, &[], count)?);
+        }
+        audit.changes.iter().for_each(|change| held.set(change));
+        for flaws in &audit.flawed_finish {
+            self.finish(&held.flawed(flaws), flaws, count)?;
+        }
+        let (finish, sheet) = self.finish(&held, &[], count)?;
+        for flaws in &audit.flawed_apply {
+            self.apply(&held.flawed(flaws), &sheet, flaws, count)?;
+        }
+        let (applied, rows) = self.apply(&held, &sheet, &[], count)?;
+        let (state, counters) = (held.rules_state, held.rules_counters);
+        Ok(Seen { opening, calls, finish, sheet, applied, rows, state, counters })
+    }
+
+    /// The same fragments again, in lists, from a second opening.
+    fn in_lists(&self, audit: &Audit, count: &mut Count) -> Result<(), String> {
+        let mut held = Held::new(audit.c.marks.len());
+        self.open(&mut held, &audit.settings, &[], count)?;
+        let mut from = 0;
+        for piece in &audit.pieces {
+            let calls = &audit.calls[from..piece.until];
+            calls.iter().flat_map(|call| &call.changes).for_each(|change| held.set(change));
+            let list = lent_list(calls.iter().map(|call| &call.fragment));
+            for flaws in &piece.flawed {
+                self.list(&mut held.flawed(flaws), &list, piece.entries, flaws, count)?;
+            }
+            self.list(&mut held, &list, piece.entries, &[], count)?;
+            from = piece.until;
+        }
+        audit.changes.iter().for_each(|change| held.set(change));
+        self.finish(&held, &[], count).map(|_| ())
+    }
+}
+
+impl Call {
+    /// The fragment as the plain audit gets it.
+    fn turned(&self) -> Fragment {
+        let read = |(i, r): (usize, &Read)| if self.turns.get(i) == Some(&true) { turned(r) } else { r.clone() };
+        Fragment { reads: self.fragment.reads.iter().enumerate().map(read).collect(), ..self.fragment.clone() }
+    }
+}
+
+/// Everything of an audit: by the index, in lists, plain; the two audits against each other, and the first beside the Rust.
+pub fn compare(audit: &Audit, count: &mut Count) -> Result<(), String> {
+    let unitigs = harness::theirs::unitigs(&audit.c);
+    let t = Targets::new(&audit.c, unitigs.as_deref());
+    let seen = Side { t: &t, way: Way::Index }.singly(audit, count)?;
+    count.run(audit, &seen);
+    crate::beside::the_rust(audit, &seen, count)?;
+    Side { t: &t, way: Way::Index }.in_lists(audit, count)?;
+    let plain = Side { t: &t, way: Way::Plain }.singly(audit, count)?;
+    crate::beside::the_plain(audit, &t, &seen, &plain, count)
+}
