@@ -7,7 +7,7 @@ use crate::map_inputs::{all_reads, several};
 use harness::audits::{Fragment, Read, Settings};
 use harness::inputs::{self, Rng};
 use harness::model_audit::SEED;
-use harness::{Catalogue, MOST_LIMIT};
+use harness::{rules, Catalogue, MOST_LIMIT};
 
 /// One audit of these fragments with nothing wrong: by single calls, in one list, and plain with every other read turned.
 fn audit(c: &Catalogue, settings: Settings, fragments: Vec<Fragment>) -> Audit {
@@ -166,7 +166,7 @@ fn read(rng: &mut Rng, c: &Catalogue, role: u8, floor: u8) -> Read {
     let mut bases = match rng.below(60) {
         0 => Vec::new(),
         1 if rng.one_in(12) => vec![*rng.pick(b"AN"); *rng.pick(&[65_535, 65_536, 65_540])],
-        _ if c.targets().is_none() => rng.bases(6, b"ACGT"),
+        _ if rules::plan_refusal(c, SEED) != 0 => rng.bases(6, b"ACGT"),
         _ => inputs::read(rng, c, SEED),
     };
     disguise(rng, &mut bases);
