@@ -3,6 +3,7 @@
 pub mod audits;
 pub mod inputs;
 pub mod jobs;
+pub mod lent;
 pub mod model_audit;
 #[rustfmt::skip]
 pub mod ours;

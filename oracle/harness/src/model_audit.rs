@@ -12,6 +12,7 @@
 //! have to be those that are found here.
 
 use crate::audits::{Fragment, Read, Settings, CANDIDATE_LIMIT, CLOSED_WALK, COMPLETE, REMAP_DISABLED};
+use crate::lent::{LentFragment, LentFragments};
 use crate::theirs::{Answer, Mapper, INDETERMINATE};
 use crate::{inputs, rules, Catalogue, Columns, MOST_LIMIT};
 use veritasm::model::Unitig;
@@ -326,29 +327,6 @@ fn row(answer: &Answer) -> [u64; ROW_NUMBERS] {
     [0, answer.state, answer.groups.len() as u64, w[0], w[1], w[2], w[3], w[4]]
 }
 
-/// A fragment as it is lent: two reads, their quality strings lent also where the mark says absent, and how many reads
-/// there are; the second stands for all behind it.
-#[derive(Debug, Clone)]
-pub struct LentFragment {
-    pub ordinal: u64,
-    pub count: usize,
-    pub reads: [LentRead; 2],
-}
-
-#[derive(Debug, Clone, Default)]
-pub struct LentRead {
-    pub role: u8,
-    pub mark: u8,
-    pub bases: Vec<u8>,
-    pub qualities: Vec<u8>,
-}
-
-impl LentRead {
-    fn read(&self) -> Read {
-        Read { role: self.role, bases: self.bases.clone(), qualities: (self.mark == 1).then(|| self.qualities.clone()) }
-    }
-}
-
 pub fn fragment(
     answer: &mut [u64],
     state: &mut [u64],
@@ -360,9 +338,7 @@ pub fn fragment(
 ) -> u64 {
     let wrong = f.reads.iter().any(|r| r.role > 2 || r.mark > 1) || answer.len() < 2 * ROW_NUMBERS;
     let Some(books) = Books::of(state).filter(|_| !wrong) else { return 26 };
-    // more reads than three are refused as three are
-    let reads = (0..f.count.min(3)).map(|i| f.reads[i.min(1)].read()).collect();
-    let fragment = Fragment { ordinal: f.ordinal, reads, entries: entries.len() };
+    let fragment = f.fragment();
     let observed = match opening_refusal(t, lent, &books.settings, counters) {
         0 => observe(t, lent.is_some(), &books, counters, &fragment, entries.len() / 4),
         n => Err(n),
@@ -383,60 +359,6 @@ pub fn fragment(
             *counters = after;
             0
         }
-    }
-}
-
-/// Many fragments as they are lent.
-#[derive(Debug, Clone, Default)]
-pub struct LentFragments {
-    pub ordinals: Vec<u64>,
-    pub counts: Vec<u64>,
-    pub roles: Vec<u8>,
-    pub reads: Vec<u8>,
-    pub read_ends: Vec<usize>,
-    pub quality_marks: Vec<u8>,
-    pub qualities: Vec<u8>,
-    pub quality_ends: Vec<usize>,
-}
-
-/// Parts of bytes, if their ends neither fall nor pass the bytes.
-fn parts<'a>(bytes: &'a [u8], ends: &[usize]) -> Option<Vec<&'a [u8]>> {
-    let mut from = 0;
-    let mut all = Vec::new();
-    for &to in ends {
-        all.push(bytes.get(from..to)?);
-        from = to;
-    }
-    Some(all)
-}
-
-impl LentFragments {
-    /// None where the lists do not fit together: 25.
-    fn fragments(&self, rows: usize) -> Option<Vec<Fragment>> {
-        let n = self.roles.len();
-        let counted: u128 = self.counts.iter().map(|&k| u128::from(k)).sum();
-        if self.counts.len() != self.ordinals.len() || counted != n as u128 || rows != ROW_NUMBERS * n {
-            return None;
-        }
-        if self.read_ends.len() != n || self.quality_marks.len() != n || self.quality_ends.len() != n {
-            return None;
-        }
-        if self.roles.iter().any(|&r| r > 2) || self.quality_marks.iter().any(|&m| m > 1) {
-            return None;
-        }
-        let (bases, qualities) = (parts(&self.reads, &self.read_ends)?, parts(&self.qualities, &self.quality_ends)?);
-        let read = |i: usize| Read {
-            role: self.roles[i],
-            bases: bases[i].to_vec(),
-            qualities: (self.quality_marks[i] == 1).then(|| qualities[i].to_vec()),
-        };
-        let mut at = 0;
-        let fragment = |(&ordinal, &count): (&u64, &u64)| {
-            let from = at;
-            at += count as usize;
-            Fragment { ordinal, reads: (from..at).map(read).collect(), entries: 0 }
-        };
-        Some(self.ordinals.iter().zip(&self.counts).map(fragment).collect())
     }
 }
 

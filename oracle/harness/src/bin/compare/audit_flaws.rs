@@ -1,9 +1,9 @@
 //! Calls of an audit with something wrong among the right ones.
 
-use crate::audit_inputs::list_of;
 use crate::audits::{Audit, Flaw};
 use harness::inputs::{self, Rng};
-use harness::model_audit::{LentFragments, ROW_NUMBERS, SHEET_NUMBERS, STATE_NUMBERS};
+use harness::lent::LentFragments;
+use harness::model_audit::{ROW_NUMBERS, SHEET_NUMBERS, STATE_NUMBERS};
 use harness::{rules, Catalogue, MOST_LIMIT};
 
 /// One to three calls with flaws, before right ones.
@@ -18,20 +18,23 @@ pub fn add(rng: &mut Rng, a: &mut Audit) {
             }
             1 | 2 if n > 0 => {
                 flaws.extend(own(rng, fragment));
+                lend_others(rng, &a.c, &mut flaws);
                 let i = rng.below(n);
                 a.calls[i].flawed.push(flaws);
             }
             3 => {
                 let i = rng.below(a.pieces.len());
-                let (mut l, mut rows) = (list_of(a, i), 0);
-                rows += ROW_NUMBERS * l.roles.len();
+                let mut l = list_of(a, i);
+                let mut rows = ROW_NUMBERS * l.roles.len();
                 damage_list(rng, &mut l, &mut rows);
                 let list = Flaw::List(l, rows);
                 flaws = if rng.one_in(4) { [flaws, vec![list]].concat() } else { vec![list] };
+                lend_others(rng, &a.c, &mut flaws);
                 a.pieces[i].flawed.push(flaws);
             }
             4 => {
                 flaws.extend(own(rng, |rng| Flaw::AnswerLength(*rng.pick(&[0, 1, SHEET_NUMBERS - 1, SHEET_NUMBERS + 1]))));
+                lend_others(rng, &a.c, &mut flaws);
                 a.flawed_finish.push(flaws);
             }
             _ => {
@@ -48,6 +51,23 @@ pub fn add(rng: &mut Rng, a: &mut Audit) {
 
 fn own(rng: &mut Rng, flaw: impl Fn(&mut Rng) -> Flaw) -> Option<Flaw> {
     rng.one_in(2).then(|| flaw(rng))
+}
+
+/// Other targets than the opening's, in place of the other flaws or beside them.
+fn lend_others(rng: &mut Rng, c: &Catalogue, flaws: &mut Vec<Flaw>) {
+    if rng.one_in(3) {
+        if rng.one_in(2) {
+            flaws.clear();
+        }
+        let mut other = c.clone();
+        inputs::damage(rng, &mut other);
+        flaws.push(Flaw::Targets(if rng.one_in(4) { other_targets(rng, c) } else { other }));
+    }
+}
+
+fn list_of(a: &Audit, piece: usize) -> LentFragments {
+    let from = if piece == 0 { 0 } else { a.pieces[piece - 1].until };
+    LentFragments::of(a.calls[from..a.pieces[piece].until].iter().map(|call| &call.fragment))
 }
 
 /// Something about the state, the counters or the index, which every call is lent.

@@ -2,7 +2,7 @@
 
 use crate::audit_flaws as flaws;
 use crate::audit_tally::AuditTally;
-use crate::audits::{lent_list, Audit, Call, Change, Piece};
+use crate::audits::{Audit, Call, Change, Piece};
 use crate::map_inputs::{all_reads, several};
 use harness::audits::{Fragment, Read, Settings};
 use harness::inputs::{self, Rng};
@@ -194,8 +194,8 @@ fn ordinal(rng: &mut Rng, last: u64) -> u64 {
         0 => last,
         1 => last.saturating_sub(1),
         2 => 0,
-        3 => *rng.pick(&[u64::MAX, u64::MAX - 1]),
-        4 => rng.next(),
+        3 if rng.one_in(3) => *rng.pick(&[u64::MAX, u64::MAX - 1]),
+        4 if rng.one_in(3) => rng.next(),
         _ => last.saturating_add(rng.within(1, 3) as u64),
     }
 }
@@ -295,7 +295,7 @@ pub fn random(tally: &mut AuditTally, rng: &mut Rng) {
     }
     let mut a = audit(&c, settings, fragments);
     for (call, &most) in a.calls.iter_mut().zip(&counts) {
-        let lent = |rng: &mut Rng| if rng.one_in(12) { entries(rng, settings.mode, most, settings.limit) } else { ample(rng, most) };
+        let lent = |rng: &mut Rng| if rng.one_in(4) { entries(rng, settings.mode, most, settings.limit) } else { ample(rng, most) };
         call.fragment.entries = lent(rng);
         call.plain_entries = if rng.one_in(2) { call.fragment.entries } else { lent(rng) };
         call.turns = [rng.one_in(2), rng.one_in(2)];
@@ -334,10 +334,4 @@ fn pieces(rng: &mut Rng, a: &Audit, most: u64) -> Vec<Piece> {
         from = until;
     }
     pieces
-}
-
-/// The list of a piece, for its flaws.
-pub fn list_of(a: &Audit, piece: usize) -> harness::model_audit::LentFragments {
-    let from = if piece == 0 { 0 } else { a.pieces[piece - 1].until };
-    lent_list(a.calls[from..a.pieces[piece].until].iter().map(|call| &call.fragment))
 }

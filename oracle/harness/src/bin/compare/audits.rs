@@ -3,7 +3,8 @@
 use crate::buffer::{unless, Buffer};
 use crate::count::Count;
 use harness::audits::{Fragment, Read, Settings};
-use harness::model_audit::{self as model, Counters, LentFragment, LentFragments, LentRead, Targets};
+use harness::lent::{LentFragment, LentFragments};
+use harness::model_audit::{self as model, Counters, Targets};
 use harness::model_audit::{ROW_NUMBERS, SHEET_NUMBERS, STATE_NUMBERS};
 use harness::{ours_audit as ours, Catalogue, Columns};
 
@@ -14,6 +15,8 @@ use harness::{ours_audit as ours, Catalogue, Columns};
 pub enum Flaw {
     /// Other columns than the index.
     Stale(Columns),
+    /// Other targets than the opening's, at a fragment, a list or `finish`.
+    Targets(Catalogue),
     StateLength(usize),
     /// A place and its number.
     State(usize, u64),
@@ -81,36 +84,6 @@ pub fn turned(read: &Read) -> Read {
     let bases = read.bases.iter().rev().map(complement).collect();
     let qualities = read.qualities.as_ref().map(|q| q.iter().rev().copied().collect());
     Read { role: read.role, bases, qualities }
-}
-
-/// What is lent for absent qualities, and for reads that are not there: nobody may look at it.
-const ABSENT: &[u8] = b"\x7f\x00 ";
-
-fn lent_read(read: &Read) -> LentRead {
-    let mark = u8::from(read.qualities.is_some());
-    LentRead { role: read.role, mark, bases: read.bases.clone(), qualities: read.qualities.clone().unwrap_or(ABSENT.to_vec()) }
-}
-
-fn lent_fragment(f: &Fragment) -> LentFragment {
-    let read = |i: usize| f.reads.get(i).map_or(LentRead { qualities: ABSENT.to_vec(), ..Default::default() }, lent_read);
-    LentFragment { ordinal: f.ordinal, count: f.reads.len(), reads: [read(0), read(1)] }
-}
-
-pub fn lent_list<'a>(fragments: impl Iterator<Item = &'a Fragment>) -> LentFragments {
-    let mut l = LentFragments::default();
-    for f in fragments {
-        l.ordinals.push(f.ordinal);
-        l.counts.push(f.reads.len() as u64);
-        for read in f.reads.iter().map(lent_read) {
-            l.roles.push(read.role);
-            l.reads.extend(read.bases);
-            l.read_ends.push(l.reads.len());
-            l.quality_marks.push(read.mark);
-            l.qualities.extend(read.qualities);
-            l.quality_ends.push(l.qualities.len());
-        }
-    }
-    l
 }
 
 // ---- what a run holds on our side and by the rules
@@ -190,6 +163,8 @@ enum Way {
 
 struct Side<'a> {
     t: &'a Targets<'a>,
+    /// Of the opening's targets.
+    index: &'a Columns,
     way: Way,
 }
 
@@ -225,7 +200,14 @@ macro_rules! flaw {
 impl Side<'_> {
     fn columns<'b>(&'b self, flaws: &'b [Flaw]) -> Option<&'b Columns> {
         let stale = flaw!(flaws, Flaw::Stale(columns) => columns);
-        (self.way == Way::Index).then_some(stale.unwrap_or(&self.t.index))
+        (self.way == Way::Index).then_some(stale.unwrap_or(self.index))
+    }
+
+    /// With the targets that are lent at a call.
+    fn lent<R>(&self, flaws: &[Flaw], then: impl FnOnce(&Side) -> R) -> R {
+        let Some(c) = flaw!(flaws, Flaw::Targets(c) => c) else { return then(self) };
+        let unitigs = harness::theirs::unitigs(c);
+        then(&Side { t: &Targets::new(c, unitigs.as_deref()), ..*self })
     }
 
     fn name(&self, index: &'static str, plain: &'static str) -> &'static str {
@@ -249,7 +231,7 @@ impl Side<'_> {
     }
 
     fn fragment(&self, held: &mut Held, f: &Fragment, entries: usize, flaws: &[Flaw], count: &mut Count) -> Result<Answered, String> {
-        let mut lent = lent_fragment(f);
+        let mut lent = LentFragment::of(f);
         if let Some(marks) = flaw!(flaws, Flaw::Marks(marks) => marks) {
             (lent.reads[0].mark, lent.reads[1].mark) = (marks[0], marks[1]);
         }
@@ -337,13 +319,13 @@ impl Side<'_> {
                 Way::Plain => (call.turned(), call.plain_entries),
             };
             for flaws in &call.flawed {
-                self.fragment(&mut held.flawed(flaws), &fragment, entries, flaws, count)?;
+                self.lent(flaws, |side| side.fragment(&mut held.flawed(flaws), &fragment, entries, flaws, count))?;
             }
             calls.push(self.fragment(&mut held, &fragment, entries, &[], count)?);
         }
         audit.changes.iter().for_each(|change| held.set(change));
         for flaws in &audit.flawed_finish {
-            self.finish(&held.flawed(flaws), flaws, count)?;
+            self.lent(flaws, |side| side.finish(&held.flawed(flaws), flaws, count))?;
         }
         let (finish, sheet) = self.finish(&held, &[], count)?;
         for flaws in &audit.flawed_apply {
@@ -362,9 +344,9 @@ impl Side<'_> {
         for piece in &audit.pieces {
             let calls = &audit.calls[from..piece.until];
             calls.iter().flat_map(|call| &call.changes).for_each(|change| held.set(change));
-            let list = lent_list(calls.iter().map(|call| &call.fragment));
+            let list = LentFragments::of(calls.iter().map(|call| &call.fragment));
             for flaws in &piece.flawed {
-                self.list(&mut held.flawed(flaws), &list, piece.entries, flaws, count)?;
+                self.lent(flaws, |side| side.list(&mut held.flawed(flaws), &list, piece.entries, flaws, count))?;
             }
             self.list(&mut held, &list, piece.entries, &[], count)?;
             from = piece.until;
@@ -386,10 +368,11 @@ impl Call {
 pub fn compare(audit: &Audit, count: &mut Count) -> Result<(), String> {
     let unitigs = harness::theirs::unitigs(&audit.c);
     let t = Targets::new(&audit.c, unitigs.as_deref());
-    let seen = Side { t: &t, way: Way::Index }.singly(audit, count)?;
+    let by = |way| Side { t: &t, index: &t.index, way };
+    let seen = by(Way::Index).singly(audit, count)?;
     count.run(audit, &seen);
     crate::beside::the_rust(audit, &seen, count)?;
-    Side { t: &t, way: Way::Index }.in_lists(audit, count)?;
-    let plain = Side { t: &t, way: Way::Plain }.singly(audit, count)?;
+    by(Way::Index).in_lists(audit, count)?;
+    let plain = by(Way::Plain).singly(audit, count)?;
     crate::beside::the_plain(audit, &t, &seen, &plain, count)
 }

@@ -1,7 +1,8 @@
 //! What the audits came to, for the table.
 
 use crate::audits::{Audit, Seen};
-use harness::model_audit::{LentFragments, ROW_NUMBERS};
+use harness::lent::LentFragments;
+use harness::model_audit::{ROW_NUMBERS, SEED};
 use std::collections::BTreeMap;
 
 #[derive(Default)]
@@ -51,8 +52,13 @@ impl Count {
     pub fn run(&mut self, audit: &Audit, seen: &Seen) {
         self.audits += 1;
         for (call, x) in audit.calls.iter().zip(&seen.calls).filter(|(_, x)| x.refusal == 0) {
+            let share = (x.entries.len() / 4 / call.fragment.reads.len()) as u64;
             for (i, read) in call.fragment.reads.iter().enumerate() {
-                *self.reads.entry((read.role.into(), x.answer[ROW_NUMBERS * i + 1])).or_default() += 1;
+                let (state, groups) = (x.answer[ROW_NUMBERS * i + 1], x.answer[ROW_NUMBERS * i + 2]);
+                *self.reads.entry((read.role.into(), state)).or_default() += 1;
+                self.note("reads with as many groups as the limit", groups == audit.settings.limit);
+                self.note("reads with as many groups as entries, not 0", groups == share && groups > 0);
+                self.note("reads of a seed's length or more, mapped", state > 2 && groups > 0 && read.bases.len() >= SEED);
             }
         }
         let accepted = seen.calls.iter().filter(|x| x.refusal == 0).count();
@@ -89,7 +95,7 @@ impl Count {
         for (status, n) in &self.rows {
             println!("  {:<28} {n:>9}", STATUSES[*status as usize]);
         }
-        println!("of the audits:");
+        println!("of the audits and their reads:");
         for (what, n) in &self.notes {
             println!("  {what:<42} {n:>9}");
         }
