@@ -5,6 +5,7 @@ use crate::buffer::shown;
 use crate::count::Count;
 use harness::audits::Read;
 use harness::Catalogue;
+use std::panic::{catch_unwind, AssertUnwindSafe};
 
 #[derive(Default)]
 pub struct AuditTally {
@@ -14,17 +15,22 @@ pub struct AuditTally {
     smallest: Option<(usize, String)>,
 }
 
+/// The rules stop where the Rust's mapper finds other groups than they do: a difference like the others.
+fn judged(audit: &Audit, count: &mut Count) -> Result<(), String> {
+    catch_unwind(AssertUnwindSafe(|| compare(audit, count))).unwrap_or_else(|_| Err("the run panics".into()))
+}
+
 impl AuditTally {
     pub fn run(&mut self, audit: Audit) {
         self.compared += 1;
-        if let Err(text) = compare(&audit, &mut self.count) {
+        if let Err(text) = judged(&audit, &mut self.count) {
             self.different += 1;
             self.note(audit, text);
         }
     }
 
     fn note(&mut self, mut audit: Audit, mut text: String) {
-        let differs = |audit: &Audit| compare(audit, &mut Count::default()).err();
+        let differs = |audit: &Audit| judged(audit, &mut Count::default()).err();
         if self.different <= 20 && size(&audit) < 10_000 {
             while let Some(next) = smaller(&audit).into_iter().filter(|a| size(a) < size(&audit)).find_map(|a| Some((differs(&a)?, a))) {
                 (text, audit) = next;
