@@ -1,6 +1,6 @@
 //! Calls of an audit with something wrong among the right ones.
 
-use crate::audits::{Audit, Flaw};
+use crate::audit_case::{Audit, Flaw};
 use harness::inputs::{self, Rng};
 use harness::lent::LentFragments;
 use harness::model_audit::{ROW_NUMBERS, SHEET_NUMBERS, STATE_NUMBERS};

@@ -1,8 +1,8 @@
 //! The inputs of whole audits: all short ones, the bounds themselves, random ones.
 
+use crate::audit_case::{Audit, Call, Change, Piece};
 use crate::audit_flaws as flaws;
 use crate::audit_tally::AuditTally;
-use crate::audits::{Audit, Call, Change, Piece};
 use crate::map_inputs::{all_reads, several};
 use harness::audits::{Fragment, Read, Settings};
 use harness::inputs::{self, Rng};

@@ -1,6 +1,7 @@
 //! Audits counted, and the smallest that differs.
 
-use crate::audits::{compare, Audit, Piece};
+use crate::audit_case::{Audit, Piece};
+use crate::audits::compare;
 use crate::buffer::shown;
 use crate::count::Count;
 use harness::audits::Read;

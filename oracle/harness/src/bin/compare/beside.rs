@@ -1,6 +1,7 @@
 //! What is seen of an audit, held against the Rust's accumulator and against the plain audit.
 
-use crate::audits::{Answered, Audit, Call, Seen};
+use crate::audit_case::{Audit, Call};
+use crate::audits::{Answered, Seen};
 use crate::buffer::unless;
 use crate::count::Count;
 use harness::audits::{self, Case, Finished, Run, Shown, Stage};
@@ -62,7 +63,9 @@ fn answered(seen: &Seen, given: &[usize], run: &Run) -> Result<bool, String> {
     for (i, (&at, theirs)) in given.iter().zip(&run.answers).enumerate() {
         let ours = &seen.calls[at];
         unless(ours.refusal == 0, &format!("the Rust accepts fragment {i}, which is refused {}", ours.refusal))?;
-        unless(reads_of(ours, theirs.len()) == *theirs, &format!("the Rust answers fragment {i} by {theirs:?}"))?;
+        if reads_of(ours, theirs.len()) != *theirs {
+            return Err(format!("the Rust answers fragment {i} by {theirs:?}"));
+        }
     }
     match &run.end {
         Err(stop) => {
@@ -97,7 +100,10 @@ fn unless_finished(seen: &Seen, unchanged: bool, run: &Run, count: &mut Count) -
     count.note("with the Rust up to its sheet and targets", true);
     unless(seen.finish == 0 && seen.applied == 0, "the Rust finishes a run that is refused")?;
     let ours = finished(seen, theirs);
-    unless(ours == *theirs, &format!("the Rust shows {theirs:?}, ours {ours:?}"))
+    if ours == *theirs {
+        return Ok(());
+    }
+    Err(format!("the Rust shows {theirs:?}, ours {ours:?}"))
 }
 
 /// The sheet and the rows in the form of the Rust's, with the counts that it shows.

@@ -1,6 +1,7 @@
 //! What the audits came to, for the table.
 
-use crate::audits::{Audit, Seen};
+use crate::audit_case::Audit;
+use crate::audits::Seen;
 use harness::lent::LentFragments;
 use harness::model_audit::{ROW_NUMBERS, SEED};
 use std::collections::BTreeMap;

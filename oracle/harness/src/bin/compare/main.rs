@@ -2,6 +2,7 @@
 //!
 //! usage: compare [CASES] [SEED]
 
+mod audit_case;
 mod audit_flaws;
 mod audit_inputs;
 mod audit_tally;
