@@ -60,9 +60,23 @@ fn lend_others(rng: &mut Rng, c: &Catalogue, flaws: &mut Vec<Flaw>) {
             flaws.clear();
         }
         let mut other = c.clone();
-        inputs::damage(rng, &mut other);
-        flaws.push(Flaw::Targets(if rng.one_in(4) { other_targets(rng, c) } else { other }));
+        match rng.below(4) {
+            0 => other = other_targets(rng, c),
+            1 => other = doubled(rng, c).unwrap_or(other),
+            _ => inputs::damage(rng, &mut other),
+        }
+        flaws.push(Flaw::Targets(other));
     }
+}
+
+/// The same targets, the last of which has the name of another.
+fn doubled(rng: &mut Rng, c: &Catalogue) -> Option<Catalogue> {
+    let targets = c.targets()?;
+    let (last, others) = targets.split_last().filter(|x| !x.1.is_empty())?;
+    let mut next = Catalogue::default();
+    others.iter().for_each(|t| next.push(t.0, t.1, t.2));
+    next.push(rng.pick(others).0, last.1, last.2);
+    Some(next)
 }
 
 fn list_of(a: &Audit, piece: usize) -> LentFragments {
