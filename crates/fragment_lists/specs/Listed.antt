@@ -76,9 +76,19 @@ module _ (q offset : ℕ) (c : Catalogue) (lent : IndexLent) (h : Held) (l : Fra
   abbrev pub listAnswers : List ℕ → List Answer
   listAnswers entries = answers q offset c h (listCalls entries)
 
-  -- refused, or state, counters, rows and shares are what the single calls give one after the other; nothing behind the shares is touched
+  -- state and counters, rows, and entries behind it: what the single calls give one after the other; nothing behind the shares is touched
+  abbrev pub listHeld : List ℕ → List ℕ → Held
+  listHeld rows entries = heldAfter (listRefusal rows) (after q offset c h (listCalls entries)) h
+
+  abbrev pub listRows : List ℕ → List ℕ → List ℕ
+  listRows rows entries = writtenAfter (listRefusal rows) (allRows (listCalls entries) (listAnswers entries)) rows
+
+  abbrev pub listEntries : List ℕ → List ℕ → List ℕ
+  listEntries rows entries = writtenAfter (listRefusal rows) (allShares (listAnswers entries) ++ drop (listWidth entries * length (l .ordinals)) entries) entries
+
+  -- the call
   pub record AuditsList (r : FragmentsAudit) (k′ : Counters) (rows entries rows′ entries′ : List ℕ) : Type 0 where
     pub answer : callOutcome (r .answer) ≡ outcome (listRefusal rows) tt
-    pub held : record { state = r .state; counters = k′ } ≡ heldAfter (listRefusal rows) (after q offset c h (listCalls entries)) h
-    pub told : rows′ ≡ writtenAfter (listRefusal rows) (allRows (listCalls entries) (listAnswers entries)) rows
-    pub left : entries′ ≡ writtenAfter (listRefusal rows) (allShares (listAnswers entries) ++ drop (listWidth entries * length (l .ordinals)) entries) entries
+    pub held : record { state = r .state; counters = k′ } ≡ listHeld rows entries
+    pub told : rows′ ≡ listRows rows entries
+    pub left : entries′ ≡ listEntries rows entries

@@ -78,7 +78,7 @@ module _ (q offset : ℕ) (c : Catalogue) (indexed : Bool) (ks rs os : List ℕ)
 
 -- ---- the call
 
-way-lent : (indexed : Bool) (q : ℕ) (ks rs os : List ℕ) → wayIf indexed q ≡ wayOf q (indexIf indexed ks rs os)
+pub way-lent : (indexed : Bool) (q : ℕ) (ks rs os : List ℕ) → wayIf indexed q ≡ wayOf q (indexIf indexed ks rs os)
 way-lent true q ks rs os = refl
 way-lent false q ks rs os = refl
 

@@ -1,0 +1,4 @@
+pub mod Mates
+pub mod Shares
+pub mod Calls
+pub mod Listing

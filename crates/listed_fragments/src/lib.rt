@@ -18,7 +18,7 @@ use fragment_lists::sequence_or_none;
 use fragment_rows::write_fragment;
 use tested_fragments::audit_tested;
 
-// Audits a fragment of `count` reads from a place on, with `width` numbers of the entries as its share, and writes its rows.
+// Audits the i-th fragment, of `count` reads from a place on, with `width` numbers of the entries as its share, and writes its rows.
 fn audit_listed(
     rows: &mut [u64],
     entries: &mut [u64],
@@ -37,7 +37,7 @@ fn audit_listed(
     marks: &[u8],
     qualities: &[u8],
     quality_ends: &[usize],
-    from: usize,
+    i: usize,
     width: usize,
     at: usize,
     count: usize,
@@ -50,21 +50,24 @@ fn audit_listed(
     requires { ⌜ Tested indexed q (now bases) (now ends) (now ranked) (now keys) (now ranks) (now positions) (state .settings)
         (countersOf (now placements) (now singles) (now multi)) ⌝ }
     requires { ⌜ ReadsLent (readLists (now roles) (now reads) (now «read_ends») (now marks) (now qualities) (now «quality_ends»))
-        × ((from + width ≤ length (now entries)) × (8 * (at + count) ≤ length (now rows))) ⌝ }
+        × ((width * (i + 1) ≤ length (now entries)) × (8 * (at + count) ≤ length (now rows))) ⌝ }
     ensures { λ r. ⌜ FragmentListed offset (lentSequences bases ends ranked) (wayIf indexed q) (old ranked) (lentHeld state placements singles multi)
-        (callAt (lentIndex indexed keys ranks positions) (lentReads roles reads «read_ends» marks qualities «quality_ends») ordinal at count (window (old entries) from width))
-        from at r (leftCounters placements singles multi) (old rows) (old entries) (new rows) (new entries) ⌝ }
+        (callAt (lentIndex indexed keys ranks positions) (lentReads roles reads «read_ends» marks qualities «quality_ends») ordinal at count (window (old entries) (width * i) width))
+        (width * i) at r (leftCounters placements singles multi) (old rows) (old entries) (new rows) (new entries) ⌝ }
 {
+    let next = at + 1;
+    let from = width * i;
+    let to = from + width;
     let first = sequence_or_none(reads, read_ends, at);
     let first_qualities = sequence_or_none(qualities, quality_ends, at);
-    let second = sequence_or_none(reads, read_ends, at + 1);
-    let second_qualities = sequence_or_none(qualities, quality_ends, at + 1);
+    let second = sequence_or_none(reads, read_ends, next);
+    let second_qualities = sequence_or_none(qualities, quality_ends, next);
     let first_role = role_of(byte_or_zero(roles, at));
-    let second_role = role_of(byte_or_zero(roles, at + 1));
+    let second_role = role_of(byte_or_zero(roles, next));
     let first_present = byte_or_zero(marks, at) == 1;
-    let second_present = byte_or_zero(marks, at + 1) == 1;
+    let second_present = byte_or_zero(marks, next) == 1;
     let audit = audit_tested(
-        &mut entries[from..from + width],
+        &mut entries[from..to],
         placements,
         singles,
         multi,
@@ -127,7 +130,7 @@ pub fn audit_list(
         width (now rows) (now entries) ⌝ }
     ensures { λ r. ⌜ ListAudited offset (lentSequences bases ends ranked) (wayIf indexed q) (old ranked) (lentHeld state placements singles multi)
         (callsOf (lentIndex indexed keys ranks positions) width (old entries)
-            (fragmentsIn (lentFragments ordinals counts (lentReads roles reads «read_ends» marks qualities «quality_ends»))))
+        (fragmentsIn (lentFragments ordinals counts (lentReads roles reads «read_ends» marks qualities «quality_ends»))))
         (width * length (old ordinals)) r (leftCounters placements singles multi) (new rows) (old entries) (new entries) ⌝ }
 {
     let mut held = state;
@@ -153,7 +156,7 @@ pub fn audit_list(
             marks,
             qualities,
             quality_ends,
-            width * i,
+            i,
             width,
             at,
             count,

@@ -34,7 +34,7 @@ fn check_reads(reads: &[u8], read_ends: &[usize], rows: usize, limit: u64) -> u6
 
 // The entries that each of n can have.
 pub fn share_of(entries: usize, n: usize) -> usize
-    ensures { λ r. ⌜ (r * n ≤ entries) × ((n ≡ 0 → ⊥) → r ≡ entries / n) ⌝ }
+    ensures { λ r. ⌜ (r * n ≤ entries) × ((n ≡ 0 → ⊥) → r ≡ entries / n) × (r ≤ entries) ⌝ }
 {
     if n == 0 {
         return 0;

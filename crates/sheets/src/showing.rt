@@ -12,7 +12,7 @@ use audit_rules::sheet::Shown;
 use audit_rules::sheet::Status;
 
 // Totals with a status: they are shown where every read was listed whole.
-fn shown_with(status: Status, totals: PlacementTotals) -> Shown
+pub fn shown_with(status: Status, totals: PlacementTotals) -> Shown
     ensures { λ r. ⌜ r ≡ shown status totals ⌝ }
 {
     let Status::Complete = status else {

@@ -95,7 +95,7 @@ fn same_targets(
 }
 
 // Writes what is shown of a target from a place on.
-fn write_shown(rows: &mut [u64], at: usize, shown: Shown)
+pub fn write_shown(rows: &mut [u64], at: usize, shown: Shown)
     requires { ⌜ at + 4 ≤ length (now rows) ⌝ }
     ensures { λ _. ⌜ new rows ≡ placed at (shownNumbers shown) (old rows) ⌝ }
 {

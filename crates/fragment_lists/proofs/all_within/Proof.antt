@@ -1,41 +1,51 @@
+-- `fragment_lists::all_within` meets its contract. The invariant: the answer for the bytes from i on is the answer for all.
+-- Assumes nothing.
+use native.Mathlib.Omega.{arith}
+use borrow.Author.Needs.{needs}
+use mathlib.Core.Path.{_≡_, refl, sym, _∙_}
+use Prim.Native.Nat.{_≤_, _-_}
+use lib.ListN.{length, getD, drop}
+use lib.Dec.{leb}
+use borrow.Author.Tests.{lt-leb, le-leb}
+use Rattle.lists.specs.Filter.{every}
+use Rattle.lists.proofs.Every.{every-fails, every-passes, every-end}
 use Rattle.fragment_lists.proofs.all_within.Statement.{statement}
 use Rattle.fragment_lists.proofs.all_within.Tie as tie
-use Rattle.fragment_lists.proofs.all_within.Reads as reads
-use Rattle.fragment_lists.proofs.all_within.Lts as lts
 
 abbrev Inv-loop : tie.InvT-loop
-Inv-loop bytes most i₀ i = ?
+Inv-loop bytes most i₀ i = (i ≤ length bytes) × (every (λ b. leb b most) bytes ≡ every (λ b. leb b most) (drop i bytes))
 
 abbrev μ-loop : tie.MeasureT-loop
-μ-loop bytes most i₀ i = ?
+μ-loop bytes most i₀ i = length bytes - i
 
--- src/lib.rt:27:5
 loop-holds : tie.Need-loop-holds Inv-loop μ-loop
-loop-holds c = ?
+loop-holds c = (omega arith, refl)
 
--- src/lib.rt:28:19
 shared-slice-read-if1 : tie.Need-shared-slice-read-if1 Inv-loop μ-loop
-shared-slice-read-if1 c = ?
+shared-slice-read-if1 c = search needs
 
--- src/lib.rt:29:13
 returns : tie.Need-returns Inv-loop μ-loop
-returns c = ?
+returns c =
+    let l = c .before .before .before in
+    let bytes = l .before .args .bytes .now in
+    let most = l .before .args .most in
+    sym (l .loop .inv .1 ∙ every-fails (λ b. leb b most) 0 bytes (l .loop .i) (c .before .before .loop-test .taken) (lt-leb (getD bytes (l .loop .i) 0) most (omega (arith, c .if1 .taken))))
 
--- src/lib.rt:31:9
 add-i : tie.Need-add-i Inv-loop μ-loop
-add-i c = ?
+add-i c = search needs
 
--- src/lib.rt:27:5
 loop-less : tie.Need-loop-less Inv-loop μ-loop
-loop-less c = ?
+loop-less c = search needs
 
--- src/lib.rt:27:5
 loop-again : tie.Need-loop-again Inv-loop μ-loop
-loop-again c = ?
+loop-again c =
+    let l = c .before .before .before in
+    let bytes = l .before .args .bytes .now in
+    let most = l .before .args .most in
+    (omega arith, l .loop .inv .1 ∙ every-passes (λ b. leb b most) 0 bytes (l .loop .i) (c .before .before .loop-test .taken) (le-leb (getD bytes (l .loop .i) 0) most (omega (arith, c .if1 .left))))
 
--- src/lib.rt:23:1
 returns-2 : tie.Need-returns-2 Inv-loop μ-loop
-returns-2 c = ?
+returns-2 c = let a = c .before .before .args in sym (c .before .loop .inv .1 ∙ every-end (λ b. leb b (a .most)) (a .bytes .now) _ (c .loop-test .left))
 
 pub all-within-spec : {M : Type 1} → statement M
 all-within-spec =

@@ -1,27 +1,24 @@
+-- `fragment_lists::lengths_fit` meets its contract.
+-- Assumes nothing.
+use native.Mathlib.Omega.{arith}
+use Rattle.fragment_lists.proofs.Fitting.{other-bases, other-marks, other-qualities, broken-rows, rows-counted}
 use Rattle.fragment_lists.proofs.lengths_fit.Statement.{statement}
 use Rattle.fragment_lists.proofs.lengths_fit.Tie as tie
-use Rattle.fragment_lists.proofs.lengths_fit.Reads as reads
-use Rattle.fragment_lists.proofs.lengths_fit.Lts as lts
 
--- src/lib.rt:41:9
 returns : tie.Need-returns
-returns c = ?
+returns c = let z = c .before .args in other-bases (z .reads) (z .bases) (z .marks) (z .qualities) (z .rows) (λ e. omega (arith, c .if1 .taken))
 
--- src/lib.rt:44:9
 returns-2 : tie.Need-returns-2
-returns-2 c = ?
+returns-2 c = let z = c .before .before .args in other-marks (z .reads) (z .bases) (z .marks) (z .qualities) (z .rows) (omega arith) (λ e. omega (arith, c .if2 .taken))
 
--- src/lib.rt:47:9
 returns-3 : tie.Need-returns-3
-returns-3 c = ?
+returns-3 c = let z = c .before .before .before .args in other-qualities (z .reads) (z .bases) (z .marks) (z .qualities) (z .rows) (omega arith) (omega arith) (λ e. omega (arith, c .if3 .taken))
 
--- src/lib.rt:50:9
 returns-4 : tie.Need-returns-4
-returns-4 c = ?
+returns-4 c = let z = c .before .before .before .before .args in broken-rows (z .reads) (z .bases) (z .marks) (z .qualities) (z .rows) (omega arith) (omega arith) (omega arith) (λ e. omega (arith, c .if4 .taken))
 
--- src/lib.rt:37:1
 returns-5 : tie.Need-returns-5
-returns-5 c = ?
+returns-5 c = let z = c .before .before .before .before .args in rows-counted (z .reads) (z .bases) (z .marks) (z .qualities) (z .rows) (omega arith) (omega arith) (omega arith) (omega (arith, c .if4 .left))
 
 pub lengths-fit-spec : {M : Type 1} → statement M
 lengths-fit-spec = tie.close (tie.spec returns returns-2 returns-3 returns-4 returns-5)

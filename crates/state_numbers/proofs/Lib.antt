@@ -1,0 +1,4 @@
+pub mod Copying
+pub mod Testing
+pub mod Writing
+pub mod Again
