@@ -1,0 +1,36 @@
+-- What the call returns and writes, from what the call behind it answers.
+-- Assumes nothing.
+use mathlib.Core.Path.{_≡_, refl, ap, _∙_}
+use mathlib.Core.Bool.{true, false}
+use mathlib.Core.List.{List}
+use Prim.Native.Nat.{ℕ}
+use Rattle.promises.specs.Refusal.{numberOf}
+use Rattle.promises.proofs.Refusing.{number-is}
+use Rattle.catalogue.specs.Catalogue.{Catalogue}
+use Rattle.ledger.specs.Booking.{Counters}
+use Rattle.audit_rules.specs.declared.settings.AuditState.{AuditState}
+use Rattle.audit_rules.specs.Settings.{Held, auditSeed, auditOffset}
+use Rattle.audit_rules.specs.Opening.{IndexLent}
+use Rattle.audit_rules.specs.Calls.{callOutcome}
+use Rattle.fragment_lists.specs.declared.FragmentsAudit.{FragmentsAudit}
+use Rattle.fragment_lists.specs.Lists.{FragmentLists}
+use Rattle.fragment_lists.specs.Listed.{AuditsList}
+use Rattle.state_numbers.specs.Layout.{stateNumbers, stateIn, isState}
+use Rattle.numbered_calls.specs.Calls.{heldIn, AuditsListNumbers}
+
+module _ (c : Catalogue) (lent : IndexLent) (k : Counters) (l : FragmentLists) (ns rows entries : List ℕ) where
+  pub no-state : isState ns ≡ false → AuditsListNumbers c lent k l ns rows entries 26 k ns rows entries
+  no-state t = record { number = rw t; state = rw t; counters = rw t; told = rw t; left = rw t }
+
+  pub list-told : isState ns ≡ true → (s : AuditState) → s ≡ stateIn ns → (a : FragmentsAudit) (k′ : Counters) (rows′ entries′ : List ℕ)
+      → AuditsList auditSeed auditOffset c lent (record { state = s; counters = k }) l a k′ rows entries rows′ entries′
+      → (ns′ : List ℕ) → ns′ ≡ stateNumbers (a .state) → (r : ℕ) → r ≡ numberOf (callOutcome (a .answer)) → AuditsListNumbers c lent k l ns rows entries r k′ ns′ rows′ entries′
+  list-told t s e a k′ rows′ entries′ g ns′ w r n =
+      let b : AuditsList auditSeed auditOffset c lent (heldIn ns k) l a k′ rows entries rows′ entries′ = rw e at g in
+      record {
+        number = rw t (n ∙ ap numberOf (b .answer) ∙ number-is _ tt);
+        state = rw t (w ∙ ap (λ (h : Held). stateNumbers (h .state)) (b .held));
+        counters = rw t (ap (λ (h : Held). h .counters) (b .held));
+        told = rw t (b .told);
+        left = rw t (b .left);
+      }
