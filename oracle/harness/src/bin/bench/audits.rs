@@ -1,14 +1,14 @@
 //! Whole audits: many fragments in one call, beside the Rust's accumulator on the same fragments in memory.
 //!
 //! Of ours `jekaumeo_fragments` is timed, which tests targets and index once; of the Rust `audit_fragment` of each fragment. Openings
-//! are not timed on either side: ours is lent an index, the Rust builds its own.
+//! are not timed on either side: ours is lent an index, the Rust builds its own. Nothing is freed within a time.
 
 use crate::{median, timed};
-use harness::audits::{self, Case, Fragment, Read, Settings};
+use harness::audits::{self, Finished, Fragment, Read, Settings};
 use harness::inputs::{turned, Rng};
 use harness::lent::LentFragments;
 use harness::model_audit::{ROW_NUMBERS, SEED, SHEET_NUMBERS, STATE_NUMBERS};
-use harness::theirs::{self, Answer};
+use harness::theirs::{self, Answer, Mapper};
 use harness::{ours, ours_audit, Catalogue, Columns, MOST_LIMIT};
 use std::hint::black_box;
 use veritasm::audit::AuditAccumulator;
@@ -69,10 +69,10 @@ impl<'a> Ours<'a> {
         ours_audit::fragments(rows, &mut self.state, &mut self.entries, counters, self.index, self.c, l)
     }
 
-    /// How many reads have the Rust's answer, whether sheet and targets are the Rust's, and the numbers of states.
-    fn compared(&self, run: &audits::Run) -> (usize, bool, [usize; 6]) {
+    /// How many reads have the Rust's answer, and the numbers of states.
+    fn answered(&self, theirs: &[Answer]) -> (usize, [usize; 6]) {
         let (mut equal, mut states) = (0, [0; 6]);
-        for (i, answer) in run.answers.iter().flatten().enumerate() {
+        for (i, answer) in theirs.iter().enumerate() {
             let row = &self.rows[ROW_NUMBERS * i..][..ROW_NUMBERS];
             let (listed, rest) = self.entries[4 * SHARE * i..][..4 * SHARE].split_at(4 * row[2] as usize);
             let groups = listed.as_chunks::<4>().0.to_vec();
@@ -80,16 +80,16 @@ impl<'a> Ours<'a> {
             equal += usize::from(row[0] == 0 && ours == *answer && rest.iter().all(|&n| n == 0));
             states[answer.state as usize] += 1;
         }
-        (equal, self.finished(run), states)
+        (equal, states)
     }
 
-    fn finished(&self, run: &audits::Run) -> bool {
+    /// Whether sheet and targets are the Rust's.
+    fn finished(&self, theirs: &Finished) -> bool {
         let counters = self.counters.each_ref().map(Vec::as_slice);
         let mut sheet = vec![7; SHEET_NUMBERS];
         let mut rows = vec![7; 4 * self.c.marks.len()];
         let finish = ours_audit::finish(&mut sheet, counters, Some(self.index), self.c, &self.state);
         let apply = ours_audit::apply_to_unitigs(&mut rows, counters, self.c, self.c, &sheet);
-        let Ok(theirs) = &run.end else { return false };
         let counted = theirs.counts.iter().all(|x| sheet[(3 + 6 * x[0] + x[1]) as usize] == x[2]);
         let shown = |row: &[u64], x: &audits::Shown| row[0] == x.status && row[1..4] == x.totals.unwrap_or([0; 3]);
         let targets = rows.chunks(4).zip(&theirs.targets).all(|(row, x)| shown(row, x));
@@ -105,20 +105,25 @@ fn run_list(what: &str, c: &Catalogue, index: &Columns, settings: Settings, frag
     let mut ours = Ours::new(c, index, settings, list.roles.len());
     let (mut a, mut b, mut tests) = (Vec::new(), Vec::new(), Vec::new());
     let mut same = true;
+    let mut last = None;
     for _ in 0..3 {
         same &= ours.open() == 0;
         same &= timed(&mut tests, || ours.fragments(&LentFragments::default())) == 0;
         same &= timed(&mut a, || ours.fragments(&list)) == 0;
         let config = audits::config(&settings).expect("settings that it has");
         let mut audit = AuditAccumulator::new(&unitigs, config).expect("the Rust opens");
-        timed(&mut b, || given.iter().for_each(|f| drop(black_box(audit.audit_fragment(f)))));
+        let answers: Vec<_> = timed(&mut b, || given.iter().map(|f| black_box(audit.audit_fragment(f))).collect());
+        last = Some((answers, audit.finish().expect("the Rust finishes")));
     }
-    drop(given);
     let (a, b) = (median(&mut a), median(&mut b));
     println!("  {what:<9} ours {a:8.3} s   Rust {b:8.3} s   ratio {:.3}   tests made once {:.3} s", a / b, median(&mut tests));
     let reads = list.roles.len();
-    let run = audits::run(&Case { c: c.clone(), settings, fragments }).expect("the Rust has it");
-    let (equal, finished, states) = ours.compared(&run);
+    let (answers, finalized) = last.expect("three rounds");
+    let mapper = Mapper::new(&unitigs, SEED).expect("the Rust builds");
+    let rows = answers.into_iter().flat_map(|rows| rows.expect("the Rust audits")).zip(fragments.iter().flat_map(|f| &f.reads));
+    let theirs: Vec<Answer> = rows.map(|(row, read)| audits::answer(&row, &read.bases, Some(&mapper), settings.limit)).collect();
+    let (equal, states) = ours.answered(&theirs);
+    let finished = ours.finished(&audits::finished(&finalized, unitigs.clone()));
     println!(
         "  answers equal: {equal} of {reads}, sheet and targets {}; ineligible {}, indeterminate {}, unmapped {}, single {}, multiple {}",
         if finished { "equal" } else { "DIFFERENT" },
