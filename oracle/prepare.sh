@@ -28,11 +28,13 @@ for module in audit indexed_mapper model; do
 done
 
 mkdir -p "$here/target"
-echo "oracle: proving and building the library"
-rt staticlib exports >"$here/target/staticlib.log" 2>&1 || {
-    tail -n 20 "$here/target/staticlib.log" | cut -c 1-400 >&2
-    missing "the library is not built; see oracle/target/staticlib.log"
-}
+echo "oracle: proving and building the libraries"
+for library in exports audit_exports; do
+    rt staticlib "$library" >"$here/target/$library.log" 2>&1 || {
+        tail -n 20 "$here/target/$library.log" | cut -c 1-400 >&2
+        missing "$library is not built; see oracle/target/$library.log"
+    }
+done
 echo "oracle: building the Rust from $VERITASM_SRC"
 cargo build --quiet --release --offline --manifest-path "$here/Cargo.toml" --target-dir "$here/target" ||
     missing "the Rust is not built"

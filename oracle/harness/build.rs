@@ -1,13 +1,15 @@
-//! Links the proved library.
+//! Links the proved libraries.
 
 use std::{env, path::PathBuf};
 
 fn main() {
     let here = PathBuf::from(env::var("CARGO_MANIFEST_DIR").unwrap());
     let folder = here.join("../../target/staticlib");
-    let archive = folder.join("libexports.a");
-    assert!(archive.exists(), "{}: not there; `rt staticlib exports` writes it", archive.display());
-    println!("cargo:rerun-if-changed={}", archive.display());
     println!("cargo:rustc-link-search=native={}", folder.display());
-    println!("cargo:rustc-link-lib=static=exports");
+    for name in ["audit_exports", "exports"] {
+        let archive = folder.join(format!("lib{name}.a"));
+        assert!(archive.exists(), "{}: not there; `rt staticlib {name}` writes it", archive.display());
+        println!("cargo:rerun-if-changed={}", archive.display());
+        println!("cargo:rustc-link-lib=static={name}");
+    }
 }

@@ -151,7 +151,7 @@ pub fn refusal(error: &VeritasmError, s: &Settings) -> u64 {
 }
 
 /// State and groups by the accumulator; the work by the mapper that it uses, on the read in upper case.
-fn answer(audit: &ReadAudit, read: &[u8], mapper: Option<&Mapper>, limit: u64) -> Answer {
+pub fn answer(audit: &ReadAudit, read: &[u8], mapper: Option<&Mapper>, limit: u64) -> Answer {
     let state = state_number(audit.state);
     let Some(mapper) = mapper.filter(|_| state > 1) else {
         return Answer { state, groups: Vec::new(), work: [0; 5] };
@@ -162,7 +162,8 @@ fn answer(audit: &ReadAudit, read: &[u8], mapper: Option<&Mapper>, limit: u64) -
     mapped
 }
 
-fn finished(finalized: &FinalizedAudit, mut unitigs: Vec<Unitig>) -> Finished {
+/// What a finished audit shows, with the targets that it is written to.
+pub fn finished(finalized: &FinalizedAudit, mut unitigs: Vec<Unitig>) -> Finished {
     finalized.apply_to_unitigs(&mut unitigs).expect("the same targets");
     let summary = &finalized.summary;
     let counts = summary.state_counts.iter().map(|s| {

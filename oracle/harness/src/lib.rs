@@ -3,7 +3,9 @@
 pub mod audits;
 pub mod inputs;
 pub mod jobs;
+pub mod lent;
 pub mod model_audit;
+pub mod model_books;
 #[rustfmt::skip]
 pub mod ours;
 #[rustfmt::skip]

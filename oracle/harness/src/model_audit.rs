@@ -11,7 +11,9 @@
 //! The work of a search by the index is taken from the Rust's mapper, which is asked read by read; its state and groups
 //! have to be those that are found here.
 
-use crate::audits::{Fragment, Read, Settings, CANDIDATE_LIMIT, CLOSED_WALK, COMPLETE, REMAP_DISABLED};
+use crate::audits::{Fragment, Read, Settings, CLOSED_WALK, COMPLETE};
+use crate::lent::{LentFragment, LentFragments};
+use crate::model_books::Books;
 use crate::theirs::{Answer, Mapper, INDETERMINATE};
 use crate::{inputs, rules, Catalogue, Columns, MOST_LIMIT};
 use veritasm::model::Unitig;
@@ -91,100 +93,6 @@ impl<'a> Targets<'a> {
             [0, 0, 0, comparisons as u64, seen]
         };
         (Answer { state, groups, work }, matches)
-    }
-}
-
-/// What an audit keeps from call to call, beside the counters.
-#[derive(Debug, Clone, PartialEq, Eq)]
-struct Books {
-    settings: Settings,
-    last: Option<u64>,
-    /// Six states of S, of R1, of R2.
-    table: [u64; 18],
-    reads: [u64; 3],
-    totals: [u64; 3],
-    indeterminate: bool,
-}
-
-impl Books {
-    fn fresh(settings: Settings) -> Self {
-        Self { settings, last: None, table: [0; 18], reads: [0; 3], totals: [0; 3], indeterminate: false }
-    }
-
-    fn numbers(&self) -> Vec<u64> {
-        let s = &self.settings;
-        let (accepted, ordinal) = (u64::from(self.last.is_some()), self.last.unwrap_or(0));
-        let mut numbers = vec![1, s.mode.into(), s.remap.into(), s.floor.into(), s.limit, accepted, ordinal];
-        numbers.extend(self.table);
-        numbers.extend(self.reads);
-        numbers.extend(self.totals);
-        numbers.push(self.indeterminate.into());
-        numbers
-    }
-
-    /// None for numbers that no state has: 26.
-    fn of(numbers: &[u64]) -> Option<Self> {
-        let &[layout, mode, remap, floor, limit, accepted, ordinal, ref rest @ ..] = numbers else { return None };
-        let right = numbers.len() == STATE_NUMBERS && layout == 1 && mode <= 1 && remap <= 1 && floor <= 255 && accepted <= 1;
-        if !right || (accepted == 0 && ordinal != 0) || rest[24] > 1 {
-            return None;
-        }
-        Some(Self {
-            settings: Settings { mode: mode as u8, remap: remap as u8, floor: floor as u8, limit },
-            last: (accepted == 1).then_some(ordinal),
-            table: rest[..18].try_into().unwrap(),
-            reads: rest[18..21].try_into().unwrap(),
-            totals: rest[21..24].try_into().unwrap(),
-            indeterminate: rest[24] == 1,
-        })
-    }
-
-    /// Roles of the mode.
-    fn roles(&self) -> &'static [u8] {
-        if self.settings.mode == 0 {
-            &[0]
-        } else {
-            &[1, 2]
-        }
-    }
-
-    /// The states that a sheet shows.
-    fn states(&self) -> std::ops::RangeInclusive<usize> {
-        if self.settings.remap == 1 {
-            1..=5
-        } else {
-            0..=0
-        }
-    }
-
-    fn status(&self) -> u64 {
-        match (self.settings.remap, self.indeterminate) {
-            (0, _) => REMAP_DISABLED,
-            (_, true) => CANDIDATE_LIMIT,
-            _ => COMPLETE,
-        }
-    }
-
-    /// A read more; None where a count would pass 2^64 - 1.
-    fn book(&mut self, counters: &mut Counters, role: u8, answer: &Answer) -> Option<()> {
-        let raise = |n: &mut u64| n.checked_add(1).map(|raised| *n = raised);
-        raise(&mut self.reads[role as usize])?;
-        raise(&mut self.table[6 * role as usize + answer.state as usize])?;
-        self.indeterminate |= answer.state == INDETERMINATE;
-        let mut targets: Vec<usize> = answer.groups.iter().map(|g| g[0] as usize).collect();
-        for &target in &targets {
-            raise(&mut self.totals[0])?;
-            raise(&mut counters[0][target])?;
-        }
-        // a read with one group is a single, one with several counts once for each of its targets
-        let column = if targets.len() == 1 { 1 } else { 2 };
-        targets.sort_unstable();
-        targets.dedup();
-        for target in targets {
-            raise(&mut self.totals[column])?;
-            raise(&mut counters[column][target])?;
-        }
-        Some(())
     }
 }
 
@@ -326,29 +234,6 @@ fn row(answer: &Answer) -> [u64; ROW_NUMBERS] {
     [0, answer.state, answer.groups.len() as u64, w[0], w[1], w[2], w[3], w[4]]
 }
 
-/// A fragment as it is lent: two reads, their quality strings lent also where the mark says absent, and how many reads
-/// there are; the second stands for all behind it.
-#[derive(Debug, Clone)]
-pub struct LentFragment {
-    pub ordinal: u64,
-    pub count: usize,
-    pub reads: [LentRead; 2],
-}
-
-#[derive(Debug, Clone, Default)]
-pub struct LentRead {
-    pub role: u8,
-    pub mark: u8,
-    pub bases: Vec<u8>,
-    pub qualities: Vec<u8>,
-}
-
-impl LentRead {
-    fn read(&self) -> Read {
-        Read { role: self.role, bases: self.bases.clone(), qualities: (self.mark == 1).then(|| self.qualities.clone()) }
-    }
-}
-
 pub fn fragment(
     answer: &mut [u64],
     state: &mut [u64],
@@ -360,9 +245,7 @@ pub fn fragment(
 ) -> u64 {
     let wrong = f.reads.iter().any(|r| r.role > 2 || r.mark > 1) || answer.len() < 2 * ROW_NUMBERS;
     let Some(books) = Books::of(state).filter(|_| !wrong) else { return 26 };
-    // more reads than three are refused as three are
-    let reads = (0..f.count.min(3)).map(|i| f.reads[i.min(1)].read()).collect();
-    let fragment = Fragment { ordinal: f.ordinal, reads, entries: entries.len() };
+    let fragment = f.fragment();
     let observed = match opening_refusal(t, lent, &books.settings, counters) {
         0 => observe(t, lent.is_some(), &books, counters, &fragment, entries.len() / 4),
         n => Err(n),
@@ -383,60 +266,6 @@ pub fn fragment(
             *counters = after;
             0
         }
-    }
-}
-
-/// Many fragments as they are lent.
-#[derive(Debug, Clone, Default)]
-pub struct LentFragments {
-    pub ordinals: Vec<u64>,
-    pub counts: Vec<u64>,
-    pub roles: Vec<u8>,
-    pub reads: Vec<u8>,
-    pub read_ends: Vec<usize>,
-    pub quality_marks: Vec<u8>,
-    pub qualities: Vec<u8>,
-    pub quality_ends: Vec<usize>,
-}
-
-/// Parts of bytes, if their ends neither fall nor pass the bytes.
-fn parts<'a>(bytes: &'a [u8], ends: &[usize]) -> Option<Vec<&'a [u8]>> {
-    let mut from = 0;
-    let mut all = Vec::new();
-    for &to in ends {
-        all.push(bytes.get(from..to)?);
-        from = to;
-    }
-    Some(all)
-}
-
-impl LentFragments {
-    /// None where the lists do not fit together: 25.
-    fn fragments(&self, rows: usize) -> Option<Vec<Fragment>> {
-        let n = self.roles.len();
-        let counted: u128 = self.counts.iter().map(|&k| u128::from(k)).sum();
-        if self.counts.len() != self.ordinals.len() || counted != n as u128 || rows != ROW_NUMBERS * n {
-            return None;
-        }
-        if self.read_ends.len() != n || self.quality_marks.len() != n || self.quality_ends.len() != n {
-            return None;
-        }
-        if self.roles.iter().any(|&r| r > 2) || self.quality_marks.iter().any(|&m| m > 1) {
-            return None;
-        }
-        let (bases, qualities) = (parts(&self.reads, &self.read_ends)?, parts(&self.qualities, &self.quality_ends)?);
-        let read = |i: usize| Read {
-            role: self.roles[i],
-            bases: bases[i].to_vec(),
-            qualities: (self.quality_marks[i] == 1).then(|| qualities[i].to_vec()),
-        };
-        let mut at = 0;
-        let fragment = |(&ordinal, &count): (&u64, &u64)| {
-            let from = at;
-            at += count as usize;
-            Fragment { ordinal, reads: (from..at).map(read).collect(), entries: 0 }
-        };
-        Some(self.ordinals.iter().zip(&self.counts).map(fragment).collect())
     }
 }
 
@@ -473,17 +302,10 @@ pub fn fragments(
     0
 }
 
-/// Rows of the sheet against the reads by role, and sums over all targets against the totals.
-fn apart(books: &Books, counters: &Counters) -> bool {
-    let differs = |numbers: &[u64], total: u64| numbers.iter().map(|&n| u128::from(n)).sum::<u128>() != u128::from(total);
-    let role = |&r: &u8| differs(&books.table[6 * r as usize..][books.states()], books.reads[r as usize]);
-    books.roles().iter().any(role) || (0..3).any(|i| differs(&counters[i], books.totals[i]))
-}
-
 pub fn finish(answer: &mut [u64], counters: &Counters, t: &Targets, lent: Option<&Columns>, state: &[u64]) -> u64 {
     let Some(books) = Books::of(state).filter(|_| answer.len() >= SHEET_NUMBERS) else { return 26 };
     let refusal = match opening_refusal(t, lent, &books.settings, counters) {
-        0 if apart(&books, counters) => 18,
+        0 if books.apart(counters) => 18,
         n => n,
     };
     let sheet = &mut answer[..SHEET_NUMBERS];

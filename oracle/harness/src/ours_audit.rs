@@ -1,7 +1,7 @@
 //! The audit of the proved library. Nothing checks these declarations against its source, crates/audit_exports/src/lib.rt.
 
 use crate::audits::Settings;
-use crate::model_audit::{LentFragment, LentFragments};
+use crate::lent::{LentFragment, LentFragments};
 use crate::{Catalogue, Columns};
 
 type In8 = *const u8;

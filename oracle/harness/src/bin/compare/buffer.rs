@@ -21,6 +21,30 @@ impl Buffer {
         &mut self.0[GUARD..n - GUARD]
     }
 
+    pub fn numbers(&self) -> &[u64] {
+        &self.0[GUARD..self.0.len() - GUARD]
+    }
+
+    /// A number at a place, if there is one.
+    pub fn put(&mut self, at: usize, number: u64) {
+        if let Some(n) = self.lent().get_mut(at) {
+            *n = number;
+        }
+    }
+
+    /// The same numbers in another length: fewer of them, or the pattern behind them.
+    pub fn resized(&self, n: usize) -> Self {
+        let mut other = Self::new(n);
+        other.lent().iter_mut().zip(self.numbers()).for_each(|(to, from)| *to = *from);
+        other
+    }
+
+    /// These numbers and no others, and the words on both sides untouched.
+    pub fn is(&self, numbers: &[u64]) -> bool {
+        let n = self.0.len();
+        self.numbers() == numbers && (0..GUARD).chain(n - GUARD..n).all(|i| self.0[i] == pattern(i))
+    }
+
     /// These numbers at the front, zeros up to a place, and behind it what was there.
     pub fn holds<'a>(&self, front: impl Iterator<Item = &'a u64>, zeros: usize) -> bool {
         let mut at = GUARD;

@@ -6,6 +6,8 @@
 //! A job is timed from the start of our program to its end, its stream written to one pipe and its lines read from
 //! another; of the Rust, opening, fragments and finish are timed, on fragments in memory and with no line written.
 
+mod audits;
+
 use harness::inputs::{turned, Rng};
 use harness::jobs;
 use harness::theirs::{self, Mapper, INDETERMINATE};
@@ -284,6 +286,9 @@ fn main() -> ExitCode {
     }
     if wanted("stream") {
         same &= run_stream(&mut rng);
+    }
+    if wanted("audits") {
+        same &= audits::run(&mut rng);
     }
     println!("{}", if same { "all answers equal" } else { "ANSWERS DIFFER" });
     ExitCode::from(u8::from(!same))
