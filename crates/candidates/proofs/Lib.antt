@@ -1,5 +1,4 @@
 pub mod Candidates
-pub mod Choosing
 pub mod Moving
 pub mod Waiting
 pub mod Sooner

@@ -1,4 +1,3 @@
-// What a search by the index starts from and goes along.
+// What a search by the index goes along.
 pub mod cursor;
-pub mod rarest;
 pub mod sides;

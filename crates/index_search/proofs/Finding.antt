@@ -21,7 +21,7 @@ use Rattle.index.specs.Index.{indexOf}
 use Rattle.places.specs.Place.{Place, place, before, matches, groups}
 use Rattle.candidates.specs.Search.{lies, seedHits, seedCount, lookupsOn, chosen, comparable, compared, Rarest}
 use Rattle.candidates.specs.Cursor.{plusFirst}
-use Rattle.candidates.specs.declared.rarest.SeedChoice.{SeedChoice}
+use Rattle.rarest.specs.declared.SeedChoice.{SeedChoice}
 use Rattle.candidates.specs.declared.cursor.Candidate.{Candidate}
 use Rattle.candidates.specs.declared.sides.Sides.{Sides}
 use Rattle.candidates.proofs.Candidates.{comparable-groups}

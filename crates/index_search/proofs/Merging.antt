@@ -22,7 +22,7 @@ use Rattle.places.specs.Place.{Place, place, Fits, before}
 use Rattle.places.proofs.Placing.{before-order, before-total, places-∈}
 use Rattle.candidates.specs.Search.{candidatesAt, candidates, comparable, Rarest}
 use Rattle.candidates.specs.Cursor.{plusFirst, BothTaken, OneMoved}
-use Rattle.candidates.specs.declared.rarest.SeedChoice.{SeedChoice}
+use Rattle.rarest.specs.declared.SeedChoice.{SeedChoice}
 use Rattle.candidates.specs.declared.cursor.OrientationCursor.{OrientationCursor}
 use Rattle.candidates.specs.declared.cursor.Candidate.{Candidate}
 use Rattle.candidates.specs.declared.sides.Sides.{Sides}

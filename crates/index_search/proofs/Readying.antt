@@ -10,17 +10,14 @@ use Rattle.lists.proofs.Limit.{length-stopped}
 use Rattle.bases.specs.Read.{oriented}
 use Rattle.bases.proofs.Turning.{length-oriented}
 use Rattle.lists.specs.Numbers.{numbers}
-use Rattle.seeds.specs.Key.{SeedIn}
 use Rattle.seeds.specs.Window.{starts}
-use Rattle.seeds.proofs.Keying.{seed-in}
-use Rattle.lookup.specs.Range.{Rising}
 use Rattle.index.specs.Index.{indexOf, rankedSequences, maxStarts}
-use Rattle.index.proofs.Hits.{index-rising}
 use Rattle.index.proofs.Sequencing.{ranked-many}
 use Rattle.places.specs.Place.{maxRead}
 use Rattle.candidates.specs.Search.{offsetCount, Rarest}
 use Rattle.candidates.specs.Cursor.{CursorIn, CursorsIn}
-use Rattle.candidates.specs.declared.rarest.SeedChoice.{SeedChoice}
+use Rattle.rarest.specs.Shown.{ChoiceLent}
+use Rattle.rarest.specs.declared.SeedChoice.{SeedChoice}
 use Rattle.candidates.specs.declared.sides.Sides.{Sides}
 use Rattle.index_search.specs.Steps.{IndexSearchable, Spans}
 use Rattle.index_search.proofs.Seeking.{cursor-in, in-index, index-few}
@@ -34,11 +31,17 @@ module _ (q : ℕ) (bases ends ranked ks rs os read : List ℕ) (ready : IndexSe
   abbrev ss : List (List ℕ)
   ss = rankedSequences bases ends ranked
 
-  pub ready-rising : Rising ks
-  ready-rising = rw (ready .indexed .keys) (index-rising q (rankedSequences bases ends ranked))
-
-  pub ready-seed : SeedIn read q 0
-  ready-seed = seed-in read q 0 (ready .seed) (omega arith)
+  -- what the choice of a seed is lent
+  pub ready-choice : ChoiceLent q bases ends ranked ks rs os read
+  ready-choice =
+      record {
+        lent = ready .searchable .lent;
+        seed = ready .seed;
+        indexed = ready .indexed;
+        letters-right = ready .searchable .letters;
+        long = long;
+        short = ready .searchable .short;
+      }
 
   ready-few : length (indexOf q (rankedSequences bases ends ranked)) ≤ maxStarts
   ready-few = index-few q bases ends ranked (ready .seed .some) (ready .searchable .lent)

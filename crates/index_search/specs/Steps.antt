@@ -7,7 +7,7 @@ use Rattle.seeds.specs.Seeds.{placed}
 use Rattle.seeds.specs.Key.{SeedLength}
 use Rattle.index.specs.Index.{rankedSequences, Lent, Indexed}
 use Rattle.places.specs.Place.{groups, maxRead}
-use Rattle.candidates.specs.declared.rarest.SeedChoice.{SeedChoice}
+use Rattle.rarest.specs.declared.SeedChoice.{SeedChoice}
 use Rattle.candidates.specs.declared.cursor.OrientationCursor.{OrientationCursor}
 use Rattle.candidates.specs.declared.cursor.Candidate.{Candidate}
 use Rattle.candidates.specs.declared.sides.Sides.{Sides}

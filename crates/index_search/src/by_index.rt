@@ -9,10 +9,10 @@ ghost use Rattle.index_search.specs.Steps.{IndexSearchable, Front, Found
 use crate::work::MappingWork;
 use crate::work::work_of;
 use candidates::cursor::OrientationCursor;
-use candidates::rarest::SeedChoice;
-use candidates::rarest::rarest_seed;
 use candidates::sides::Sides;
 use candidates::sides::first_candidates;
+use rarest::SeedChoice;
+use rarest::rarest_seed;
 use scan::visit::Tally;
 use scan::visit::visit;
 
@@ -60,8 +60,8 @@ pub fn search_index(
     requires { ⌜ (q ≤ length (now read)) × (4 * bound ≤ length (now entries)) ⌝ }
     ensures { λ r. ⌜ Found (byIndex q) (lentSequences bases ends ranked) (old ranked) (old read) bound r (old entries) (new entries) ⌝ }
 {
-    let plus = rarest_seed(read, 0, keys, q);
-    let minus = rarest_seed(read, 1, keys, q);
+    let plus = rarest_seed(bases, ends, ranked, keys, ranks, positions, q, read, 0);
+    let minus = rarest_seed(bases, ends, ranked, keys, ranks, positions, q, read, 1);
     let forward = cursor_over(0, plus);
     let backward = cursor_over(1, minus);
     let mut sides = first_candidates(

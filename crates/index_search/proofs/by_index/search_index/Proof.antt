@@ -7,7 +7,7 @@ use Prim.Native.Nat.{_-_, _*_}
 use Rattle.index.specs.Index.{rankedSequences, maxStarts}
 use Rattle.index_search.proofs.Merging.{Both, both-start, both-fits, both-going, both-more, both-fewer, both-counted, both-length}
 use Rattle.index_search.proofs.Finding.{found-all, found-stopped}
-use Rattle.index_search.proofs.Readying.{ready-rising, ready-seed, ready-cursor, ready-chosen, ready-spans, ready-cursors}
+use Rattle.index_search.proofs.Readying.{ready-choice, ready-cursor, ready-chosen, ready-spans, ready-cursors}
 use Rattle.index_search.proofs.by_index.search_index.Statement.{statement}
 use Rattle.index_search.proofs.by_index.search_index.Tie as tie
 
@@ -22,12 +22,12 @@ abbrev μ-loop : tie.MeasureT-loop
 rarest-seed-requires : tie.Need-rarest-seed-requires Inv-loop μ-loop
 rarest-seed-requires c κs =
     let z = c .before .before .before .before .before .before .before .before in
-    (ready-seed _ _ _ _ _ _ _ _ (z .pre .0) (z .pre .1 .0), (ready-rising _ _ _ _ _ _ _ _ (z .pre .0) (z .pre .1 .0), z .pre .0 .searchable .short))
+    ready-choice _ _ _ _ _ _ _ _ (z .pre .0) (z .pre .1 .0)
 
 rarest-seed-requires-2 : tie.Need-rarest-seed-requires-2 Inv-loop μ-loop
 rarest-seed-requires-2 c κs =
     let z = c .before .before .before .before .before .before .before .before .before in
-    (ready-seed _ _ _ _ _ _ _ _ (z .pre .0) (z .pre .1 .0), (ready-rising _ _ _ _ _ _ _ _ (z .pre .0) (z .pre .1 .0), z .pre .0 .searchable .short))
+    ready-choice _ _ _ _ _ _ _ _ (z .pre .0) (z .pre .1 .0)
 
 cursor-over-requires : tie.Need-cursor-over-requires Inv-loop μ-loop
 cursor-over-requires c κs = search needs

@@ -10,3 +10,10 @@ pub record Better (offset start end lookups offset′ start′ end′ o s e l : 
   pub start-is : s ≡ cond (ltb (end′ - start′) (end - start)) start′ start
   pub end-is : e ≡ cond (ltb (end′ - start′) (end - start)) end′ end
   pub lookups-are : l ≡ lookups + 1
+
+-- the same seed, with n lookups more
+pub record Counted (offset start end lookups n o s e l : ℕ) : Type 0 where
+  pub offset-is : o ≡ offset
+  pub start-is : s ≡ start
+  pub end-is : e ≡ end
+  pub lookups-are : l ≡ lookups + n

@@ -1,12 +1,12 @@
--- `candidates::rarest::SeedChoice::or` meets its contract.
+-- `rarest::SeedChoice::or` meets its contract.
 -- Assumes nothing.
 use mathlib.Core.Path.{refl}
 use native.Mathlib.Omega.{arith}
 use Prim.Native.Nat.{_-_}
 use borrow.Author.Tests.{lt-ltb, le-ltb}
 use borrow.Author.Needs.{needs}
-use Rattle.candidates.proofs.rarest.SeedChoice.or.Statement.{statement}
-use Rattle.candidates.proofs.rarest.SeedChoice.or.Tie as tie
+use Rattle.rarest.proofs.SeedChoice.or.Statement.{statement}
+use Rattle.rarest.proofs.SeedChoice.or.Tie as tie
 
 add-lookups : tie.Need-add-lookups
 add-lookups c = search needs

@@ -1,0 +1,5 @@
+pub mod Alike
+pub mod Behind
+pub mod Growing
+pub mod Lending
+pub mod Choosing
