@@ -7,6 +7,7 @@ ghost use Rattle.seeds.specs.Seeds.{Stored, Room};
 ghost use Rattle.seeds.specs.Key.{SeedLength};
 ghost use Rattle.index.specs.Index.{rankedSequences, allSeeds, indexOf, Lent, lentSequences};
 use crate::ranked::ranked_sequence;
+use bases::base::table;
 use seeds::append::append_postings;
 use sorting::sort_postings;
 
@@ -25,11 +26,12 @@ fn append_all(
     ensures { λ r. ⌜ r ≡ length (allSeeds q 0 (lentSequences bases ends ranked)) ⌝ }
     ensures { λ r. ⌜ Stored 0 (allSeeds q 0 (lentSequences bases ends ranked)) (old keys) (old ranks) (old positions) (new keys) (new ranks) (new positions) ⌝ }
 {
+    let table = table();
     let mut at = 0;
     let mut rank = 0;
     while rank < ranked.len() {
         let sequence = ranked_sequence(bases, ends, ranked, rank);
-        at = append_postings(keys, ranks, positions, at, sequence, q, rank as u64);
+        at = append_postings(keys, ranks, positions, at, &table, sequence, q, rank as u64);
         rank += 1;
     }
     at

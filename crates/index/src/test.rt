@@ -6,12 +6,14 @@ ghost use lib.ListN.{length};
 ghost use lib.Dec.{ltb, eqb};
 ghost use Rattle.lists.specs.Cut.{window};
 ghost use Rattle.promises.specs.Slice.{old};
+ghost use Rattle.bases.specs.Base.{Table};
 ghost use Rattle.columns.specs.Posting.{Columns, posting};
 ghost use Rattle.seeds.specs.Key.{keyOf, SeedLength};
 ghost use Rattle.seeds.specs.Window.{starts};
 ghost use Rattle.index.specs.Index.{indexOf, columnsOf, isSeed, RowsRight, Tells, Climbs, Lent, lentSequences};
 use crate::ranked::count_postings;
 use crate::ranked::ranked_sequence;
+use bases::base::table;
 use columns::precedes;
 use lookup::read::posting_key;
 use lookup::read::posting_position;
@@ -19,7 +21,8 @@ use lookup::read::posting_rank;
 use seeds::keys::key_at;
 
 // Whether a seed of a sequence has a start and a key.
-fn has_seed(sequence: &[u8], q: usize, start: usize, key: u64) -> bool
+fn has_seed(table: &[u16; 256], sequence: &[u8], q: usize, start: usize, key: u64) -> bool
+    requires { ⌜ Table (now table) ⌝ }
     requires { ⌜ SeedLength q ⌝ }
     ensures { λ r. ⌜ r ≡ (ltb start (starts q (old sequence)) && eqb key (keyOf (window (old sequence) start q))) ⌝ }
 {
@@ -29,11 +32,12 @@ fn has_seed(sequence: &[u8], q: usize, start: usize, key: u64) -> bool
     if sequence.len() - q < start {
         return false;
     }
-    key == key_at(sequence, 0, q, start)
+    key == key_at(table, sequence, 0, q, start)
 }
 
 // Whether a posting is a seed of the ranked sequences.
 fn is_seed(
+    table: &[u16; 256],
     key: u64,
     rank: usize,
     position: usize,
@@ -42,13 +46,15 @@ fn is_seed(
     ranked: &[usize],
     q: usize,
 ) -> bool
+    requires { ⌜ Table (now table) ⌝ }
     requires { ⌜ Lent (now bases) (now ends) (now ranked) × SeedLength q ⌝ }
     ensures { λ r. ⌜ r ≡ isSeed q (lentSequences bases ends ranked) (posting key rank position) ⌝ }
 {
     if ranked.len() <= rank {
         return false;
     }
-    has_seed(ranked_sequence(bases, ends, ranked, rank), q, position, key)
+    let sequence = ranked_sequence(bases, ends, ranked, rank);
+    has_seed(table, sequence, q, position, key)
 }
 
 // Whether row i is later than the row before it; the first row is.
@@ -75,12 +81,13 @@ fn rows_right(
     requires { ⌜ Columns (now keys) (now ranks) (now positions) × (Lent (now bases) (now ends) (now ranked) × SeedLength q) ⌝ }
     ensures { λ r. ⌜ Tells r (RowsRight q (lentSequences bases ends ranked) (old keys) (old ranks) (old positions)) ⌝ }
 {
+    let table = table();
     let mut i = 0;
     while i < keys.len() {
         let key = posting_key(keys, i);
         let rank = posting_rank(ranks, i);
         let position = posting_position(positions, i);
-        if !is_seed(key, rank, position, bases, ends, ranked, q) {
+        if !is_seed(&table, key, rank, position, bases, ends, ranked, q) {
             return false;
         }
         if !row_climbs(keys, ranks, positions, i) {

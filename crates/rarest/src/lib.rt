@@ -7,6 +7,7 @@ ghost use Rattle.places.specs.Place.{maxRead};
 ghost use Rattle.candidates.specs.Search.{Rarest};
 ghost use Rattle.rarest.specs.Shown.{ChoiceLent};
 ghost use Rattle.rarest.specs.Choosing.{Better, Counted};
+use bases::base::table;
 use lookup::lookup::Range;
 use lookup::lookup::posting_range;
 use seeds::keys::key_at;
@@ -76,8 +77,9 @@ pub fn rarest_seed(
     requires { ⌜ ChoiceLent q (now bases) (now ends) (now ranked) (now keys) (now ranks) (now positions) (now read) ⌝ }
     ensures { λ r. ⌜ Rarest (old keys) q (oriented strand (old read)) (r .offset) (r .start) (r .end) (r .lookups) ⌝ }
 {
+    let table = table();
     let n = read.len() - q + 1;
-    let mut range = posting_range(keys, key_at(read, strand, q, 0));
+    let mut range = posting_range(keys, key_at(&table, read, strand, q, 0));
     let mut best = SeedChoice {
         offset: 0,
         start: range.start,
@@ -108,7 +110,7 @@ pub fn rarest_seed(
         if n <= o {
             return best;
         }
-        range = posting_range(keys, key_at(read, strand, q, o));
+        range = posting_range(keys, key_at(&table, read, strand, q, o));
         best = best.or(o, range);
     }
     best

@@ -2,10 +2,10 @@
 ghost use mathlib.Core.Path.{_≡_};
 ghost use Prim.Native.Nat.{_+_, _^_, _<_};
 ghost use Rattle.promises.specs.Slice.{old};
+ghost use Rattle.bases.specs.Base.{Table};
 ghost use Rattle.bases.specs.Read.{oriented};
 ghost use Rattle.seeds.specs.Window.{windowOf};
 ghost use Rattle.seeds.specs.Key.{keyOf, maxSeed, SeedIn, KeyHeld};
-use bases::base::table;
 use bases::strand::oriented_code;
 
 // 4 to the power n.
@@ -23,15 +23,15 @@ pub fn power(n: usize) -> u64
 }
 
 // The key of the q bases at a start.
-pub fn key_at(sequence: &[u8], strand: u64, q: usize, start: usize) -> u64
+pub fn key_at(table: &[u16; 256], sequence: &[u8], strand: u64, q: usize, start: usize) -> u64
+    requires { ⌜ Table (now table) ⌝ }
     requires { ⌜ SeedIn (now sequence) q start ⌝ }
     ensures { λ r. ⌜ r ≡ keyOf (windowOf (oriented strand (old sequence)) start q) ⌝ }
 {
-    let table = table();
     let mut key: u64 = 0;
     let mut i = 0;
     while i < q {
-        let code = oriented_code(&table, sequence, strand, start + i);
+        let code = oriented_code(table, sequence, strand, start + i);
         key = key * 4 + code;
         i += 1;
     }
@@ -39,13 +39,21 @@ pub fn key_at(sequence: &[u8], strand: u64, q: usize, start: usize) -> u64
 }
 
 // From the key at a start to the key at the next one; high is 4 to the power q - 1, what the first digit counts.
-pub fn key_next(sequence: &[u8], strand: u64, q: usize, start: usize, high: u64, key: u64) -> u64
+pub fn key_next(
+    table: &[u16; 256],
+    sequence: &[u8],
+    strand: u64,
+    q: usize,
+    start: usize,
+    high: u64,
+    key: u64,
+) -> u64
+    requires { ⌜ Table (now table) ⌝ }
     requires { ⌜ SeedIn (now sequence) q (start + 1) ⌝ }
     requires { ⌜ KeyHeld (oriented strand (now sequence)) q start high key ⌝ }
     ensures { λ r. ⌜ r ≡ keyOf (windowOf (oriented strand (old sequence)) (start + 1) q) ⌝ }
 {
-    let table = table();
-    let first = oriented_code(&table, sequence, strand, start);
-    let last = oriented_code(&table, sequence, strand, start + q);
+    let first = oriented_code(table, sequence, strand, start);
+    let last = oriented_code(table, sequence, strand, start + q);
     (key - first * high) * 4 + last
 }

@@ -1,4 +1,4 @@
--- `postings::index::has_seed` meets its contract: too short a sequence, too late a start, or the key decides.
+-- `index::test::has_seed` meets its contract: too short a sequence, too late a start, or the key decides.
 -- Assumes nothing.
 use Rattle.index.proofs.Testing.{short-sequence, late-start, by-key}
 use native.Mathlib.Omega.{arith}
@@ -17,7 +17,7 @@ returns-2 : tie.Need-returns-2
 returns-2 c = let a = c .before .before .before .args in late-start (a .q) (a .sequence .now) (a .start) (a .key) (c .before .if1 .left) (c .if2 .taken)
 
 key-at-requires : tie.Need-key-at-requires
-key-at-requires c κs = let s = c .before .before .before in seed-in (s .args .sequence .now) (s .args .q) (s .args .start) (s .pre) (omega arith)
+key-at-requires c κs = let s = c .before .before .before in (s .pre .0, seed-in (s .args .sequence .now) (s .args .q) (s .args .start) (s .pre .1) (omega arith))
 
 returns-3 : tie.Need-returns-3
 returns-3 c =

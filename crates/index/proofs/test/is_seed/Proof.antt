@@ -1,4 +1,4 @@
--- `postings::index::is_seed` meets its contract: no such rank, or its sequence decides.
+-- `index::test::is_seed` meets its contract: no such rank, or its sequence decides.
 -- Assumes nothing.
 use native.Mathlib.Omega.{arith}
 use mathlib.Core.Path.{_∙_}
@@ -17,7 +17,7 @@ returns c =
     no-rank (a .q) ss (a .key) (a .rank) (a .position) (omega (arith, z, c .if1 .taken))
 
 ranked-sequence-requires : tie.Need-ranked-sequence-requires
-ranked-sequence-requires c κs = (c .before .before .before .before .pre .0, omega (arith, c .if1 .left))
+ranked-sequence-requires c κs = (c .before .before .before .before .pre .1 .0, omega (arith, c .if1 .left))
 
 has-seed-requires : tie.Need-has-seed-requires
 has-seed-requires c κs = search needs

@@ -11,10 +11,10 @@ use Rattle.seeds.proofs.append.append_postings.Statement.{statement}
 use Rattle.seeds.proofs.append.append_postings.Tie as tie
 
 abbrev Inv-loop : tie.InvT-loop
-Inv-loop keys₀ ranks₀ positions₀ at sequence q rank n high key₀ i₀ keys ranks positions key i = Appending at q rank sequence keys₀ ranks₀ positions₀ (starts q sequence) key i keys ranks positions
+Inv-loop keys₀ ranks₀ positions₀ at table sequence q rank n high key₀ i₀ keys ranks positions key i = Appending at q rank sequence keys₀ ranks₀ positions₀ (starts q sequence) key i keys ranks positions
 
 abbrev μ-loop : tie.MeasureT-loop
-μ-loop keys₀ ranks₀ positions₀ at sequence q rank n high key₀ i₀ keys ranks positions key i = n - i
+μ-loop keys₀ ranks₀ positions₀ at table sequence q rank n high key₀ i₀ keys ranks positions key i = n - i
 
 returns : tie.Need-returns Inv-loop μ-loop
 returns c =
@@ -37,7 +37,7 @@ power-requires c κs = search needs
 key-at-requires : tie.Need-key-at-requires Inv-loop μ-loop
 key-at-requires c κs =
     let s = c .before .before .before .before .before .before in
-    seed-in (s .args .sequence .now) (s .args .q) 0 (s .pre .0) (omega arith)
+    (s .pre .0, seed-in (s .args .sequence .now) (s .args .q) 0 (s .pre .1 .0) (omega arith))
 
 loop-holds : tie.Need-loop-holds Inv-loop μ-loop
 loop-holds c = appending-start _ _ _ _ _ _ _ _ _ (c .key-at .ensures)
@@ -48,7 +48,7 @@ add-next c = search needs
 key-on-requires : tie.Need-key-on-requires Inv-loop μ-loop
 key-on-requires c κs =
     let s = c .before .before .before .before .before .before .before .before .before in
-    (seed-in (s .args .sequence .now) (s .args .q) (c .before .loop .i) (s .pre .0) (omega arith), record { first-digit = c .before .before .before .power .ensures; key-is = c .before .loop .inv .digits })
+    (s .pre .0, (seed-in (s .args .sequence .now) (s .args .q) (c .before .loop .i) (s .pre .1 .0) (omega arith), record { first-digit = c .before .before .before .power .ensures; key-is = c .before .loop .inv .digits }))
 
 add-put : tie.Need-add-put Inv-loop μ-loop
 add-put c = omega arith
@@ -56,7 +56,7 @@ add-put c = omega arith
 put-requires : tie.Need-put-requires Inv-loop μ-loop
 put-requires c κs =
     let s = c .before .before .before .before .before .before .before .before .before .before .before .before .before in
-    appending-room _ _ _ _ _ _ _ _ (s .pre .1) _ _ _ _ _ (c .before .before .before .before .before .loop .inv) (omega (arith, c .before .before .before .before .loop-test .taken))
+    appending-room _ _ _ _ _ _ _ _ (s .pre .1 .1) _ _ _ _ _ (c .before .before .before .before .before .loop .inv) (omega (arith, c .before .before .before .before .loop-test .taken))
 
 loop-less : tie.Need-loop-less Inv-loop μ-loop
 loop-less c = search needs
@@ -67,7 +67,7 @@ loop-again c =
     let t = c .before .before .before .before .before .before .before .before .before .before .before in
     let k = c .before .before .before .before .before .before .before .before .before .before .key-on .ensures in
     let p = c .before .before .before .before .before .before .put .ensures in
-    appending-next _ _ _ _ _ _ _ _ (s .pre .1) _ _ _ _ _ (t .before .loop .inv) (omega (arith, t .loop-test .taken)) _ _ _ _ _ _ p k (omega arith) (omega arith)
+    appending-next _ _ _ _ _ _ _ _ (s .pre .1 .1) _ _ _ _ _ (t .before .loop .inv) (omega (arith, t .loop-test .taken)) _ _ _ _ _ _ p k (omega arith) (omega arith)
 
 add-result : tie.Need-add-result Inv-loop μ-loop
 add-result c = search needs
@@ -84,7 +84,7 @@ same-length-3 c = c .before .loop .inv .lengths .2
 returns-2 : tie.Need-returns-2 Inv-loop μ-loop
 returns-2 c =
     let s = c .before .before .before .before .before .before .before .before .before in
-    (omega arith, appending-end _ _ _ _ _ _ _ _ (s .pre .1) _ _ _ _ _ (c .before .loop .inv) (omega (arith, c .loop-test .left)))
+    (omega arith, appending-end _ _ _ _ _ _ _ _ (s .pre .1 .1) _ _ _ _ _ (c .before .loop .inv) (omega (arith, c .loop-test .left)))
 
 pub append-postings-spec : {M : Type 1} → statement M
 append-postings-spec =

@@ -14,7 +14,7 @@ returns : tie.Need-returns
 returns c =
     let a = c .before .before .args in
     let e : a .start - 1 ≡ a .start = omega arith in
-    c .before .before .pre .1 .key-is ∙ ap (λ k. keyOf (windowOf (a .sequence .now) k (a .q))) e
+    c .before .before .pre .1 .1 .key-is ∙ ap (λ k. keyOf (windowOf (a .sequence .now) k (a .q))) e
 
 sub-key-next : tie.Need-sub-key-next
 sub-key-next c = search needs
@@ -22,7 +22,7 @@ sub-key-next c = search needs
 key-next-requires : tie.Need-key-next-requires
 key-next-requires c κs =
     let s = c .before .before in
-    (seed-in (s .args .sequence .now) (s .args .q) _ (s .pre .0 .size) (omega (arith, seed-end _ _ _ (s .pre .0))), s .pre .1)
+    (s .pre .0, (seed-in (s .args .sequence .now) (s .args .q) _ (s .pre .1 .0 .size) (omega (arith, seed-end _ _ _ (s .pre .1 .0))), s .pre .1 .1))
 
 returns-2 : tie.Need-returns-2
 returns-2 c =

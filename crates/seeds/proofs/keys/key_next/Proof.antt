@@ -9,32 +9,28 @@ use Rattle.seeds.proofs.keys.key_next.Statement.{statement}
 use Rattle.seeds.proofs.keys.key_next.Tie as tie
 use Rattle.seeds.proofs.keys.key_next.Reads as reads
 use Rattle.seeds.proofs.keys.key_next.Lts as lts
-use Rattle.bases.proofs.base.table.Reads as table-reads
 use Rattle.bases.proofs.strand.oriented_code.Reads as code-reads
 
-table-requires : tie.Need-table-requires
-table-requires c κs = search needs
-
 oriented-code-requires : tie.Need-oriented-code-requires
-oriented-code-requires c κs = c .before .table .ensures
+oriented-code-requires c κs = c .before .pre .0
 
 add-oriented-code : tie.Need-add-oriented-code
-add-oriented-code c = omega (arith, seed-end _ _ _ (c .before .before .before .before .before .pre .0))
+add-oriented-code c = omega (arith, seed-end _ _ _ (c .before .before .pre .1 .0))
 
 oriented-code-requires-2 : tie.Need-oriented-code-requires-2
-oriented-code-requires-2 c κs = c .before .before .before .table .ensures
+oriented-code-requires-2 c κs = c .before .before .pre .0
 
 -- the step from the key at the start to the next one
-stepped : (c : lts.After-oriented-code2 (table-reads.Asked, table-reads.Learnt, code-reads.Asked, code-reads.Learnt) reads.Pre reads.Post)
-    → let a = c .before .before .before .before .before .before .args in
-    Step (oriented (a .strand) (a .sequence .now)) (a .start) (a .q) (a .high) (a .key) (c .before .before .oriented-code .result) (c .oriented-code2 .result)
+stepped : (c : lts.After-oriented-code2 (code-reads.Asked, code-reads.Learnt) reads.Pre reads.Post)
+    → let a = c .before .before .before .args in
+    Step (oriented (a .strand) (a .sequence .now)) (a .start) (a .q) (a .high) (a .key) (c .before .oriented-code .result) (c .oriented-code2 .result)
 stepped c =
-    let s = c .before .before .before .before .before .before in
+    let s = c .before .before .before in
     let a = s .args in
-    let w = seed-oriented (a .strand) (a .sequence .now) (a .q) (a .start + 1) (s .pre .0) in
-    let first = c .before .before .oriented-code .ensures in
+    let w = seed-oriented (a .strand) (a .sequence .now) (a .q) (a .start + 1) (s .pre .1 .0) in
+    let first = c .before .oriented-code .ensures in
     let last = c .oriented-code2 .ensures in
-    step (oriented (a .strand) (a .sequence .now)) (a .start) (a .q) (a .high) (a .key) _ _ w (s .pre .1) (omega (arith, first)) (omega (arith, last))
+    step (oriented (a .strand) (a .sequence .now)) (a .start) (a .q) (a .high) (a .key) _ _ w (s .pre .1 .1) (omega (arith, first)) (omega (arith, last))
 
 mul-result : tie.Need-mul-result
 mul-result c = omega (arith, stepped c .digit, stepped c .fits)
@@ -55,7 +51,6 @@ pub key-next-spec : {M : Type 1} → statement M
 key-next-spec =
     tie.close
     (tie.spec
-    table-requires
     oriented-code-requires
     add-oriented-code
     oriented-code-requires-2
