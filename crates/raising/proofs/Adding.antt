@@ -141,7 +141,7 @@ module _ (ns ms : List ℕ) where
 
 -- ---- the marks of two reads
 
-times-fewer : (x : ℕ) (xs : List ℕ) → times x xs ≤ length xs
+pub times-fewer : (x : ℕ) (xs : List ℕ) → times x xs ≤ length xs
 times-fewer x xs = length-filter (eqb x) xs
 
 module _ (xs ys : List ℕ) (k : ℕ) where
@@ -151,7 +151,7 @@ module _ (xs ys : List ℕ) (k : ℕ) where
   length-marks : length marks ≡ k
   length-marks = length-raisedAt ys (raisedAt xs (replicate k 0)) ∙ length-raisedAt xs (replicate k 0) ∙ length-replicate k 0
 
-  marks-at : (ns : List ℕ) (i : ℕ) → i < length ns → getD (raisedAt ys (raisedAt xs ns)) i 0 ≡ getD ns i 0 + times i xs + times i ys
+  pub marks-at : (ns : List ℕ) (i : ℕ) → i < length ns → getD (raisedAt ys (raisedAt xs ns)) i 0 ≡ getD ns i 0 + times i xs + times i ys
   marks-at ns i h = raisedAt-times ys (raisedAt xs ns) i (omega (arith, length-raisedAt xs ns)) ∙ ap (λ v. v + times i ys) (raisedAt-times xs ns i h)
 
   zeros-at : (i : ℕ) → i < k → getD marks i 0 ≡ times i xs + times i ys

@@ -41,6 +41,10 @@ sums (n ∷ ns) (m ∷ ms) = (n + m) ∷ sums ns ms
 abbrev pub small : List ℕ → Bool
 small ns = every (λ n. leb n maxCounter) ns
 
+-- the number at each of some places has room for so many raises
+abbrev pub roomAt : ℕ → List ℕ → List ℕ → Bool
+roomAt more ts ns = every (λ t. leb (getD ns t 0 + more) maxCounter) ts
+
 -- n entries whose targets have counters
 pub record Targeted (n : ℕ) (entries : List ℕ) (targets : ℕ) : Type 0 where
   pub room : 4 * n ≤ length entries

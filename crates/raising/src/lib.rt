@@ -4,7 +4,7 @@ ghost use Prim.Native.Nat.{_*_, _≤_, _<_};
 ghost use lib.ListN.{length, getD};
 ghost use Rattle.promises.specs.Slice.{old, new};
 ghost use Rattle.ledger.specs.Booking.{raisedAt};
-ghost use Rattle.raising.specs.Targets.{targetsIn, runEnds, countsAt, raisedIf, chosen, sums, small, RaisableAt, Raisable, Fittable};
+ghost use Rattle.raising.specs.Targets.{targetsIn, runEnds, countsAt, raisedIf, chosen, sums, small, roomAt, Targeted, RaisableAt, Raisable, Fittable};
 use ledger::MAX_COUNTER;
 
 // Whether entry i is one that counts: each is, or the last of each run of one target.
@@ -79,8 +79,8 @@ fn sums_fit(counters: &[u64], marks: &[u64]) -> bool
     true
 }
 
-// Whether counters stay within 64 bits when they are raised by the targets of two reads.
-pub fn targets_fit(
+// Whether they do when they are raised by the targets of two reads: all raises are counted first.
+fn totals_fit(
     counters: &[u64],
     first: &[u64],
     n: usize,
@@ -95,4 +95,43 @@ pub fn targets_fit(
     raise_targets(&mut marks, first, n, each);
     raise_targets(&mut marks, second, m, each);
     sums_fit(counters, &marks)
+}
+
+// Whether the counters of the first n entries' targets have room for so many raises each.
+fn has_room(counters: &[u64], entries: &[u64], n: usize, more: u64) -> bool
+    requires { ⌜ Targeted n (now entries) (length (now counters)) ⌝ }
+    ensures { λ r. ⌜ r ≡ roomAt more (targetsIn n (old entries)) (old counters) ⌝ }
+{
+    let most = MAX_COUNTER - more;
+    let mut i: usize = 0;
+    while i < n {
+        let target = entries[4 * i] as usize;
+        if most < counters[target] {
+            return false;
+        }
+        i += 1;
+    }
+    true
+}
+
+// Whether counters stay within 64 bits when they are raised by the targets of two reads. Only where a target's counter is nearly
+// full are the raises counted.
+pub fn targets_fit(
+    counters: &[u64],
+    first: &[u64],
+    n: usize,
+    second: &[u64],
+    m: usize,
+    each: bool,
+) -> bool
+    requires { ⌜ Fittable n (now first) m (now second) (now counters) ⌝ }
+    ensures { λ r. ⌜ r ≡ small (raisedAt (chosen each (targetsIn m (old second))) (raisedAt (chosen each (targetsIn n (old first))) (old counters))) ⌝ }
+{
+    let more = (n + m) as u64;
+    if has_room(counters, first, n, more) {
+        if has_room(counters, second, m, more) {
+            return true;
+        }
+    }
+    totals_fit(counters, first, n, second, m, each)
 }

@@ -1,52 +1,37 @@
--- `raising::targets_fit` meets its contract.
+-- `raising::targets_fit` meets its contract: room for all raises, or the raises counted.
 -- Assumes nothing.
-use mathlib.Core.Path.{refl, _∙_}
-use mathlib.Core.List.{[]}
+use mathlib.Core.Path.{sym, _∙_}
 use native.Mathlib.Omega.{arith}
+use Rattle.raising.specs.Targets.{targetsIn}
+use Rattle.raising.proofs.Choosing.{length-targets}
+use Rattle.raising.proofs.Room.{room-fits}
 use borrow.Author.Needs.{needs}
-use Rattle.raising.specs.Targets.{targetsIn, chosen}
-use Rattle.raising.proofs.Adding.{clear, marks-raisable, marks-fit, few-chosen}
 use Rattle.raising.proofs.targets_fit.Statement.{statement}
 use Rattle.raising.proofs.targets_fit.Tie as tie
 
-slice-aggregate-raise-targets : tie.Need-slice-aggregate-raise-targets
-slice-aggregate-raise-targets c = search needs
+add-more : tie.Need-add-more
+add-more c = search needs
 
-raise-targets-requires : tie.Need-raise-targets-requires
-raise-targets-requires c κs =
-    let z = c .before .before .before .before in
-    marks-raisable [] clear refl (z .args .each) _ _ (omega arith) (omega arith) (z .pre .first-targeted .room) (λ i h. omega (arith, z .pre .first-targeted .inside i h))
+has-room-requires : tie.Need-has-room-requires
+has-room-requires c κs = search needs
 
-slice-aggregate-raise-targets-2 : tie.Need-slice-aggregate-raise-targets-2
-slice-aggregate-raise-targets-2 c = search needs
-
-raise-targets-requires-2 : tie.Need-raise-targets-requires-2
-raise-targets-requires-2 c κs =
-    let z = c .before .before .before .before .before .before .before in
-    let a = z .args in
-    marks-raisable (chosen (a .each) (targetsIn (a .n) (a .first .now))) _ (c .before .before .raise-targets .ensures) (a .each) _ _ (few-chosen (a .each) (a .n) (a .first .now) (z .pre .few .1)) (omega arith) (omega arith) (λ i h. omega (arith, z .pre .second-targeted .inside i (omega (arith, h))))
-
-slice-aggregate-sums-fit : tie.Need-slice-aggregate-sums-fit
-slice-aggregate-sums-fit c = search needs
-
-sums-fit-requires : tie.Need-sums-fit-requires
-sums-fit-requires c κs = search needs
+has-room-requires-2 : tie.Need-has-room-requires-2
+has-room-requires-2 c κs = search needs
 
 returns : tie.Need-returns
 returns c =
-    let z = c .before .before .before .before .before .before .before .before .before .before .before in
-    let a = z .args in
-    c .sums-fit .ensures
-    ∙ marks-fit (chosen (a .each) (targetsIn (a .n) (a .first .now))) _ (c .before .before .before .before .before .before .raise-targets .ensures) (chosen (a .each) (targetsIn (a .m) (a .second .now))) _ (a .counters .now) (c .before .before .before .raise-targets2 .ensures) (z .pre .few .0)
+    let a = c .before .before .before .before .before .before .before .args in
+    let n = length-targets (a .n) (a .first .now) in
+    let m = length-targets (a .m) (a .second .now) in
+    room-fits (a .each) (targetsIn (a .n) (a .first .now)) (targetsIn (a .m) (a .second .now)) (a .counters .now) _ (omega (arith, n, m)) (sym (c .before .before .before .has-room .ensures) ∙ c .before .before .if1 .taken) (sym (c .before .has-room2 .ensures) ∙ c .if2 .taken) (λ i. omega (arith, c .before .before .before .before .before .before .shared-slice-known .given i))
+
+totals-fit-requires : tie.Need-totals-fit-requires
+totals-fit-requires c κs = search needs
+
+returns-2 : tie.Need-returns-2
+returns-2 c = search needs
 
 pub targets-fit-spec : {M : Type 1} → statement M
 targets-fit-spec =
     tie.close
-    (tie.spec
-    slice-aggregate-raise-targets
-    raise-targets-requires
-    slice-aggregate-raise-targets-2
-    raise-targets-requires-2
-    slice-aggregate-sums-fit
-    sums-fit-requires
-    returns)
+    (tie.spec add-more has-room-requires has-room-requires-2 returns totals-fit-requires returns-2)
