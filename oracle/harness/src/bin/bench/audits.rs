@@ -3,7 +3,7 @@
 //! Of ours `jekaumeo_fragments` is timed, which tests targets and index once; of the Rust `audit_fragment` of each fragment. Openings
 //! are not timed on either side: ours is lent an index, the Rust builds its own. Nothing is freed within a time.
 
-use crate::{median, timed};
+use crate::{median, print, timed};
 use harness::audits::{self, Finished, Fragment, Read, Settings};
 use harness::inputs::{turned, Rng};
 use harness::lent::LentFragments;
@@ -115,9 +115,9 @@ fn run_list(what: &str, c: &Catalogue, index: &Columns, settings: Settings, frag
         let answers: Vec<_> = timed(&mut b, || given.iter().map(|f| black_box(audit.audit_fragment(f))).collect());
         last = Some((answers, audit.finish().expect("the Rust finishes")));
     }
-    let (a, b) = (median(&mut a), median(&mut b));
-    println!("  {what:<9} ours {a:8.3} s   Rust {b:8.3} s   ratio {:.3}   tests made once {:.3} s", a / b, median(&mut tests));
     let reads = list.roles.len();
+    print(what, &mut a, &mut b, Some(reads));
+    println!("            of it the tests made once {:.3} s", median(&mut tests));
     let (answers, finalized) = last.expect("three rounds");
     let mapper = Mapper::new(&unitigs, SEED).expect("the Rust builds");
     let rows = answers.into_iter().flat_map(|rows| rows.expect("the Rust audits")).zip(fragments.iter().flat_map(|f| &f.reads));
