@@ -31,11 +31,7 @@ use Rattle.places.specs.Place.{before}
 use Rattle.candidates.specs.Search.{tried, rarest, lies, candidate, candidates, comparable, seedHits, seedCount, lookupsOn, chosen, keyCount, offsetCount, Rarest}
 use Rattle.candidates.specs.Cursor.{CursorIn}
 use Rattle.candidates.proofs.Waiting.{ahead}
-
--- as many keys of postings are equal to one as postings have it
-keys-hits : (k : ℕ) (ps : List Posting) → keyCount (keysOf ps) k ≡ length (hits k ps)
-keys-hits k [] = refl
-keys-hits k (p ∷ ps) = by-test (eqb (p .key) k) (λ e. rw e (ap suc (keys-hits k ps))) (λ e. rw e (keys-hits k ps))
+use Rattle.rarest.proofs.Growing.{keys-hits}
 
 -- an index has no more postings than its sequences have places
 all-few : (q r : ℕ) (ss : List (List ℕ)) → 1 ≤ q → ((i : ℕ) → i < length ss → length (getD ss i []) ≤ maxBases) → length (allSeeds q r ss) ≤ length ss * 16777216

@@ -74,7 +74,7 @@ module _ (q : ℕ) (ss : List (List ℕ)) (k k′ e : ℕ) where
 -- ---- offsets of a read
 
 -- as many keys of postings are equal to one as postings have it
-keys-hits : (k : ℕ) (ps : List Posting) → keyCount (keysOf ps) k ≡ length (hits k ps)
+pub keys-hits : (k : ℕ) (ps : List Posting) → keyCount (keysOf ps) k ≡ length (hits k ps)
 keys-hits k [] = refl
 keys-hits k (p ∷ ps) = by-test (eqb (p .key) k) (λ e. rw e (ap suc (keys-hits k ps))) (λ e. rw e (keys-hits k ps))
 
@@ -88,6 +88,10 @@ seed-parts q ss p t =
 
 parts-seed : (q : ℕ) (ss : List (List ℕ)) (p : Posting) → p .rank < length ss → p .position < starts q (getD ss (p .rank) []) → p .key ≡ keyOf (windowOf (getD ss (p .rank) []) (p .position) q) → isSeed q ss p ≡ true
 parts-seed q ss p r s k = rw (lt-ltb (p .rank) (length ss) r, lt-ltb (p .position) (starts q (getD ss (p .rank) [])) s, eq-eqb (p .key) (keyOf (windowOf (getD ss (p .rank) []) (p .position) q)) k)
+
+-- a number of a posting, by its place in a column
+pub column : (q : ℕ) (ss : List (List ℕ)) (g : Posting → ℕ) (l : List ℕ) → l ≡ map g (indexOf q ss) → (i : ℕ) → i < length (indexOf q ss) → getD l i 0 ≡ g (getD (indexOf q ss) i (posting 0 0 0))
+column q ss g l e i h = ap (λ x. getD x i 0) e ∙ getD-map g (posting 0 0 0) 0 (indexOf q ss) i h
 
 -- the codes of bases that are letters
 abbrev pub Low : List ℕ → Type 0
@@ -105,17 +109,14 @@ module _ (q : ℕ) (ss : List (List ℕ)) (ks rs os : List ℕ) (ix : Indexed q 
       let i = ∈-getD (posting 0 0 0) p (indexOf q ss) (f .0) in
       place p (i .0) (i .1) (i .2) (eqb-true (p .key) key (f .1))
     where
-      column : (g : Posting → ℕ) (l : List ℕ) → l ≡ map g (indexOf q ss) → (i : ℕ) → i < length (indexOf q ss) → getD l i 0 ≡ g (getD (indexOf q ss) i (posting 0 0 0))
-      column g l e i h = ap (λ x. getD x i 0) e ∙ getD-map g (posting 0 0 0) 0 (indexOf q ss) i h
-
       place : (p : Posting) (i : ℕ) → i < length (indexOf q ss) → p ≡ getD (indexOf q ss) i (posting 0 0 0) → p .key ≡ key → GoesOn q (getD ss (p .rank) []) (p .position) b o r
       place p i h e k =
-          let kk : getD ks i 0 ≡ key = column (λ x. x .key) ks (ix .keys) i h ∙ ap (λ (x : Posting). x .key) (sym e) ∙ k in
+          let kk : getD ks i 0 ≡ key = column q ss (λ x. x .key) ks (ix .keys) i h ∙ ap (λ (x : Posting). x .key) (sym e) ∙ k in
           let n : length ks ≡ length (indexOf q ss) = ap length (ix .keys) ∙ length-map (indexOf q ss) (λ (x : Posting). x .key) in
           let w = among i (omega (arith, n, h)) kk in
           subst₂ (λ x y. GoesOn q (getD ss x []) y b o r)
-          (column (λ x. x .rank) rs (ix .ranks) i h ∙ ap (λ (x : Posting). x .rank) (sym e))
-          (column (λ x. x .position) os (ix .positions) i h ∙ ap (λ (x : Posting). x .position) (sym e))
+          (column q ss (λ x. x .rank) rs (ix .ranks) i h ∙ ap (λ (x : Posting). x .rank) (sym e))
+          (column q ss (λ x. x .position) os (ix .positions) i h ∙ ap (λ (x : Posting). x .position) (sym e))
           (shown .each i (w .0) (w .1))
         where
           among : (i : ℕ) → i < length ks → getD ks i 0 ≡ key → (start ≤ i) × (i < end)

@@ -24,7 +24,7 @@ use Rattle.index.proofs.Indexing.{index-∈-seed}
 use Rattle.index.proofs.Sequencing.{ranked-many}
 use Rattle.candidates.specs.Search.{offsetCount}
 use Rattle.rarest.specs.Shown.{PostingLent, ShowLent, Shown, ChoiceLent}
-use Rattle.rarest.proofs.Growing.{Low, seed-parts, counts-grow}
+use Rattle.rarest.proofs.Growing.{Low, seed-parts, column, counts-grow}
 
 -- ---- letters
 
@@ -50,9 +50,6 @@ module _ (q : ℕ) (bases ends ranked ks rs os read : List ℕ) (lent : ChoiceLe
   index-long : (g : Posting → ℕ) (l : List ℕ) → l ≡ map g (indexOf q ss) → length l ≡ length (indexOf q ss)
   index-long g l e = ap length e ∙ length-map (indexOf q ss) g
 
-  column : (g : Posting → ℕ) (l : List ℕ) → l ≡ map g (indexOf q ss) → (i : ℕ) → i < length (indexOf q ss) → getD l i 0 ≡ g (getD (indexOf q ss) i (posting 0 0 0))
-  column g l e i h = ap (λ x. getD x i 0) e ∙ getD-map g (posting 0 0 0) 0 (indexOf q ss) i h
-
   module _ (o start end most : ℕ) (within : o + q + most ≤ length read) (strand : ℕ) (range : RangeOf ks (keyOf (window (oriented strand read) o q)) start end) where
     pub show-lent : ShowLent q bases ends ranked rs os read o start end most
     show-lent =
@@ -67,8 +64,8 @@ module _ (q : ℕ) (bases ends ranked ks rs os read : List ℕ) (lent : ChoiceLe
         one i h =
             let p = getD (indexOf q ss) i (posting 0 0 0) in
             let s = seed-parts q ss p (index-∈-seed q ss p (getD-∈ (posting 0 0 0) (indexOf q ss) i h)) in
-            let r = column (λ x. x .rank) rs (lent .indexed .ranks) i h in
-            let x = column (λ x. x .position) os (lent .indexed .positions) i h in
+            let r = column q ss (λ x. x .rank) rs (lent .indexed .ranks) i h in
+            let x = column q ss (λ x. x .position) os (lent .indexed .positions) i h in
             record {
               lent = lent .lent;
               is-ranked = omega (arith, r, s .0, ranked-many bases ends ranked);

@@ -11,6 +11,7 @@ use bases::base::table;
 use lookup::lookup::Range;
 use lookup::lookup::posting_range;
 use seeds::keys::key_at;
+use showing::looks_again;
 use showing::shown;
 
 pub mod agreeing;
@@ -86,12 +87,14 @@ pub fn rarest_seed(
         end: range.end,
         lookups: 1,
     };
+    let mut look = true;
     let mut o: usize = 0;
     while o + 1 < n {
         if best.start == best.end {
             return best;
         }
         let skip = shown(
+            look,
             bases,
             ends,
             ranked,
@@ -107,6 +110,7 @@ pub fn rarest_seed(
         );
         best = best.counted(skip);
         o += skip + 1;
+        look = looks_again(skip, o);
         if n <= o {
             return best;
         }

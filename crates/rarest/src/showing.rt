@@ -1,6 +1,8 @@
 // How many offsets behind a seed have no fewer postings, as far as its own postings show.
 ghost use mathlib.Core.Path.{_≡_};
-ghost use Prim.Native.Nat.{_≤_};
+ghost use mathlib.Core.Bool.{_||_};
+ghost use Prim.Native.Nat.{_%_, _≤_};
+ghost use lib.Dec.{ltb, eqb};
 ghost use Rattle.promises.specs.Slice.{old};
 ghost use Rattle.bases.specs.Read.{oriented};
 ghost use Rattle.index.specs.Index.{lentSequences};
@@ -86,8 +88,20 @@ fn behind_all(
     left
 }
 
-// How many of the `most` offsets behind offset o are known to have no fewer postings than the seed there.
+// Whether postings are looked at for an offset: they are where the last look showed something, and else at one offset in eight, so that
+// looks that show nothing cost little.
+pub(crate) fn looks_again(skip: usize, o: usize) -> bool
+    ensures { λ r. ⌜ r ≡ (ltb 0 skip || eqb (o % 8) 0) ⌝ }
+{
+    if 0 < skip {
+        return true;
+    }
+    o % 8 == 0
+}
+
+// How many of the `most` offsets behind offset o are known to have no fewer postings than the seed there; none if nobody looks.
 pub fn shown(
+    look: bool,
     bases: &[u8],
     ends: &[usize],
     ranked: &[usize],
@@ -104,6 +118,9 @@ pub fn shown(
     requires { ⌜ ShowLent q (now bases) (now ends) (now ranked) (now ranks) (now positions) (now read) o start end most ⌝ }
     ensures { λ r. ⌜ Shown q (lentSequences bases ends ranked) (old ranks) (old positions) (oriented strand (old read)) o start end most r ⌝ }
 {
+    if !look {
+        return 0;
+    }
     if MOST_POSTINGS < end - start {
         return 0;
     }

@@ -12,10 +12,10 @@ use Rattle.rarest.proofs.rarest_seed.Statement.{statement}
 use Rattle.rarest.proofs.rarest_seed.Tie as tie
 
 abbrev Inv-loop : tie.InvT-loop
-Inv-loop bases ends ranked keys ranks positions q read strand table n range₀ best₀ o₀ range best o = Choosing keys q (oriented strand read) n o (range .start) (range .end) (best .offset) (best .start) (best .end) (best .lookups)
+Inv-loop bases ends ranked keys ranks positions q read strand table n range₀ best₀ look₀ o₀ range best look o = Choosing keys q (oriented strand read) n o (range .start) (range .end) (best .offset) (best .start) (best .end) (best .lookups)
 
 abbrev μ-loop : tie.MeasureT-loop
-μ-loop bases ends ranked keys ranks positions q read strand table n range₀ best₀ o₀ range best o = n - o
+μ-loop bases ends ranked keys ranks positions q read strand table n range₀ best₀ look₀ o₀ range best look o = n - o
 
 table-requires : tie.Need-table-requires Inv-loop μ-loop
 table-requires c κs = search needs
@@ -65,38 +65,41 @@ add-o c = let l = c .before .before .before .before .before .loop in omega (arit
 add-o-2 : tie.Need-add-o-2 Inv-loop μ-loop
 add-o-2 c = let l = c .before .before .before .before .before .loop in omega (arith, l .inv .looked .inside, c .before .shown .ensures .few, c .before .before .before .before .before .before .before .before .before .before .before .before .before .before .before .before .before .pre .short)
 
+looks-again-requires : tie.Need-looks-again-requires Inv-loop μ-loop
+looks-again-requires c κs = search needs
+
 returns-2 : tie.Need-returns-2 Inv-loop μ-loop
 returns-2 c =
-    let s = c .before .before .before .before .before .before .before .before .before .before .before .before .before .before .before .before .before .before in
-    let l = c .before .before .before .before .before .before .loop in
-    passed-all (s .args .keys .now) (s .args .q) (oriented (s .args .strand) (s .args .read .now)) (length (s .args .read .now) - s .args .q + 1) (l .o + c .before .before .shown .result) _ _ _ _ (choosing-passed (s .args .keys .now) (s .args .q) (oriented (s .args .strand) (s .args .read .now)) (length (s .args .read .now) - s .args .q + 1) (l .o) (l .range .start) (l .range .end) (l .best .offset) (l .best .start) (l .best .end) (l .best .lookups) (l .inv) (λ z. omega (arith, z, c .before .before .before .if1 .left)) (c .before .before .shown .result) (omega (arith, c .before .before .shown .ensures .few, l .inv .looked .inside))
-    (grows (s .args .q) (s .args .bases .now) (s .args .ends .now) (s .args .ranked .now) (s .args .keys .now) (s .args .ranks .now) (s .args .positions .now) (s .args .read .now) (s .pre) (l .o) (l .range .start) (l .range .end) (length (s .args .read .now) - s .args .q + 1 - 1 - l .o) (omega (arith, l .inv .looked .inside, s .pre .long)) (s .args .strand) (l .inv .here) (c .before .before .shown .result) (c .before .before .shown .ensures))
-    _ _ _ _ (c .before .counted .ensures))
+    let s = c .before .before .before .before .before .before .before .before .before .before .before .before .before .before .before .before .before .before .before in
+    let l = c .before .before .before .before .before .before .before .loop in
+    passed-all (s .args .keys .now) (s .args .q) (oriented (s .args .strand) (s .args .read .now)) (length (s .args .read .now) - s .args .q + 1) (l .o + c .before .before .before .shown .result) _ _ _ _ (choosing-passed (s .args .keys .now) (s .args .q) (oriented (s .args .strand) (s .args .read .now)) (length (s .args .read .now) - s .args .q + 1) (l .o) (l .range .start) (l .range .end) (l .best .offset) (l .best .start) (l .best .end) (l .best .lookups) (l .inv) (λ z. omega (arith, z, c .before .before .before .before .if1 .left)) (c .before .before .before .shown .result) (omega (arith, c .before .before .before .shown .ensures .few, l .inv .looked .inside))
+    (grows (s .args .q) (s .args .bases .now) (s .args .ends .now) (s .args .ranked .now) (s .args .keys .now) (s .args .ranks .now) (s .args .positions .now) (s .args .read .now) (s .pre) (l .o) (l .range .start) (l .range .end) (length (s .args .read .now) - s .args .q + 1 - 1 - l .o) (omega (arith, l .inv .looked .inside, s .pre .long)) (s .args .strand) (l .inv .here) (c .before .before .before .shown .result) (c .before .before .before .shown .ensures))
+    _ _ _ _ (c .before .before .counted .ensures))
     (offsets (s .args .q) (s .args .bases .now) (s .args .ends .now) (s .args .ranked .now) (s .args .keys .now) (s .args .ranks .now) (s .args .positions .now) (s .args .read .now) (s .pre) (s .args .strand)) (omega (arith, c .if2 .taken))
 
 key-at-requires-2 : tie.Need-key-at-requires-2 Inv-loop μ-loop
-key-at-requires-2 c κs = let s = c .before .before .before .before .before .before .before .before .before .before .before .before .before .before .before .before .before .before .before in (c .before .before .before .before .before .before .before .before .before .before .before .table .ensures, seed-in (s .args .read .now) (s .args .q) (c .before .before .before .before .before .before .before .loop .o + (c .before .before .before .shown .result + 1)) (s .pre .seed) (omega (arith, c .before .if2 .left, s .pre .long)))
+key-at-requires-2 c κs = let s = c .before .before .before .before .before .before .before .before .before .before .before .before .before .before .before .before .before .before .before .before in (c .before .before .before .before .before .before .before .before .before .before .before .before .table .ensures, seed-in (s .args .read .now) (s .args .q) (c .before .before .before .before .before .before .before .before .loop .o + (c .before .before .before .before .shown .result + 1)) (s .pre .seed) (omega (arith, c .before .if2 .left, s .pre .long)))
 
 posting-range-requires-2 : tie.Need-posting-range-requires-2 Inv-loop μ-loop
-posting-range-requires-2 c κs = let s = c .before .before .before .before .before .before .before .before .before .before .before .before .before .before .before .before .before .before .before .before in rising (s .args .q) (s .args .bases .now) (s .args .ends .now) (s .args .ranked .now) (s .args .keys .now) (s .args .ranks .now) (s .args .positions .now) (s .args .read .now) (s .pre)
+posting-range-requires-2 c κs = let s = c .before .before .before .before .before .before .before .before .before .before .before .before .before .before .before .before .before .before .before .before .before in rising (s .args .q) (s .args .bases .now) (s .args .ends .now) (s .args .ranked .now) (s .args .keys .now) (s .args .ranks .now) (s .args .positions .now) (s .args .read .now) (s .pre)
 
 or-requires : tie.Need-or-requires Inv-loop μ-loop
 or-requires c κs =
-    let l = c .before .before .before .before .before .before .before .before .before .loop in
-    let k = c .before .before .before .before .counted .ensures in
-    (omega (arith, k .start-is, k .end-is, l .inv .range .ordered), (c .posting-range2 .ensures .ordered, omega (arith, k .lookups-are, l .inv .looked .counted, c .before .before .before .if2 .left, c .before .before .before .before .before .before .before .before .before .before .before .before .before .before .before .before .before .before .before .before .before .pre .short)))
+    let l = c .before .before .before .before .before .before .before .before .before .before .loop in
+    let k = c .before .before .before .before .before .counted .ensures in
+    (omega (arith, k .start-is, k .end-is, l .inv .range .ordered), (c .posting-range2 .ensures .ordered, omega (arith, k .lookups-are, l .inv .looked .counted, c .before .before .before .if2 .left, c .before .before .before .before .before .before .before .before .before .before .before .before .before .before .before .before .before .before .before .before .before .before .pre .short)))
 
 loop-less : tie.Need-loop-less Inv-loop μ-loop
-loop-less c = omega (arith, c .before .before .before .before .before .before .before .before .before .loop-test .taken)
+loop-less c = omega (arith, c .before .before .before .before .before .before .before .before .before .before .loop-test .taken)
 
 loop-again : tie.Need-loop-again Inv-loop μ-loop
 loop-again c =
-    let s = c .before .before .before .before .before .before .before .before .before .before .before .before .before .before .before .before .before .before .before .before .before .before in
-    let l = c .before .before .before .before .before .before .before .before .before .before .loop in
-    passed-next (s .args .keys .now) (s .args .q) (oriented (s .args .strand) (s .args .read .now)) (length (s .args .read .now) - s .args .q + 1) (l .o + c .before .before .before .before .before .before .shown .result) _ _ _ _ (choosing-passed (s .args .keys .now) (s .args .q) (oriented (s .args .strand) (s .args .read .now)) (length (s .args .read .now) - s .args .q + 1) (l .o) (l .range .start) (l .range .end) (l .best .offset) (l .best .start) (l .best .end) (l .best .lookups) (l .inv) (λ z. omega (arith, z, c .before .before .before .before .before .before .before .if1 .left)) (c .before .before .before .before .before .before .shown .result) (omega (arith, c .before .before .before .before .before .before .shown .ensures .few, l .inv .looked .inside))
-    (grows (s .args .q) (s .args .bases .now) (s .args .ends .now) (s .args .ranked .now) (s .args .keys .now) (s .args .ranks .now) (s .args .positions .now) (s .args .read .now) (s .pre) (l .o) (l .range .start) (l .range .end) (length (s .args .read .now) - s .args .q + 1 - 1 - l .o) (omega (arith, l .inv .looked .inside, s .pre .long)) (s .args .strand) (l .inv .here) (c .before .before .before .before .before .before .shown .result) (c .before .before .before .before .before .before .shown .ensures))
-    _ _ _ _ (c .before .before .before .before .before .counted .ensures))
-    (l .o + (c .before .before .before .before .before .before .shown .result + 1)) (omega arith) (omega (arith, c .before .before .before .before .if2 .left)) _ _ _ (c .before .before .key-at2 .ensures) (c .before .posting-range2 .ensures) _ _ _ _ (c .or .ensures)
+    let s = c .before .before .before .before .before .before .before .before .before .before .before .before .before .before .before .before .before .before .before .before .before .before .before in
+    let l = c .before .before .before .before .before .before .before .before .before .before .before .loop in
+    passed-next (s .args .keys .now) (s .args .q) (oriented (s .args .strand) (s .args .read .now)) (length (s .args .read .now) - s .args .q + 1) (l .o + c .before .before .before .before .before .before .before .shown .result) _ _ _ _ (choosing-passed (s .args .keys .now) (s .args .q) (oriented (s .args .strand) (s .args .read .now)) (length (s .args .read .now) - s .args .q + 1) (l .o) (l .range .start) (l .range .end) (l .best .offset) (l .best .start) (l .best .end) (l .best .lookups) (l .inv) (λ z. omega (arith, z, c .before .before .before .before .before .before .before .before .if1 .left)) (c .before .before .before .before .before .before .before .shown .result) (omega (arith, c .before .before .before .before .before .before .before .shown .ensures .few, l .inv .looked .inside))
+    (grows (s .args .q) (s .args .bases .now) (s .args .ends .now) (s .args .ranked .now) (s .args .keys .now) (s .args .ranks .now) (s .args .positions .now) (s .args .read .now) (s .pre) (l .o) (l .range .start) (l .range .end) (length (s .args .read .now) - s .args .q + 1 - 1 - l .o) (omega (arith, l .inv .looked .inside, s .pre .long)) (s .args .strand) (l .inv .here) (c .before .before .before .before .before .before .before .shown .result) (c .before .before .before .before .before .before .before .shown .ensures))
+    _ _ _ _ (c .before .before .before .before .before .before .counted .ensures))
+    (l .o + (c .before .before .before .before .before .before .before .shown .result + 1)) (omega arith) (omega (arith, c .before .before .before .before .if2 .left)) _ _ _ (c .before .before .key-at2 .ensures) (c .before .posting-range2 .ensures) _ _ _ _ (c .or .ensures)
 
 returns-3 : tie.Need-returns-3 Inv-loop μ-loop
 returns-3 c =
@@ -124,6 +127,7 @@ rarest-seed-spec =
     counted-requires
     add-o
     add-o-2
+    looks-again-requires
     returns-2
     key-at-requires-2
     posting-range-requires-2
