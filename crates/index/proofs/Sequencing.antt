@@ -15,9 +15,9 @@ use Rattle.lists.proofs.Places.{getD-map}
 use Rattle.lists.proofs.Cut.{cut-at, ends-at, length-window, startOf}
 use Rattle.catalogue.specs.Catalogue.{maxBases}
 use Rattle.columns.specs.Posting.{Posting}
-use Rattle.seeds.specs.Seeds.{seeds, Stored, Room}
+use Rattle.seeds.specs.Seeds.{seeds}
 use Rattle.seeds.specs.Window.{starts}
-use Rattle.seeds.proofs.Storing.{length-seeds, stored-none, stored-join}
+use Rattle.seeds.proofs.Storing.{length-seeds}
 use Rattle.seeds.specs.Key.{SeedLength}
 use Rattle.index.specs.Index.{allSeeds, rankedSequences, Lent}
 
@@ -68,16 +68,6 @@ module _ (q : ℕ) (ss : List (List ℕ)) (rank : ℕ) (done : List Posting) (s 
   pub reached-all : length ss ≤ rank → done ≡ allSeeds q 0 ss
   reached-all h = sym (append-nil done) ∙ ap (λ l. done ++ allSeeds q rank l) (sym (drop-of-length-le ss h)) ∙ s .joined
 
-  -- what is done and the next rank's seeds are not more than all
-  pub reached-room : rank < length ss → length done + starts q (getD ss rank []) ≤ length (allSeeds q 0 ss)
-  reached-room h =
-      let e = ap length (s .joined) in
-      let a = length-append done (allSeeds q rank (drop rank ss)) in
-      let f = ap (λ l. length (allSeeds q rank l)) (drop-cons ss rank [] h) in
-      let b = length-append (seeds q rank (getD ss rank [])) (allSeeds q (suc rank) (drop (suc rank) ss)) in
-      let n = length-seeds q rank (getD ss rank []) 0 (starts q (getD ss rank [])) in
-      omega arith
-
 -- a count under way
 pub record Counting (q : ℕ) (ss : List (List ℕ)) (rank count : ℕ) : Type 0 where
   pub done : List Posting
@@ -98,40 +88,6 @@ counting-more q ss rank count c some h most =
 pub counting-all : (q : ℕ) (ss : List (List ℕ)) (rank count : ℕ) → Counting q ss rank count → length ss ≤ rank → count ≡ length (allSeeds q 0 ss)
 counting-all q ss rank count c h = c .counted ∙ ap length (reached-all q ss rank (c .done) (c .reached) h)
 
--- columns under way: the seeds of the first ranks are stored
-pub record Filling (q : ℕ) (ss : List (List ℕ)) (ks₀ rs₀ os₀ : List ℕ) (rank at : ℕ) (ks rs os : List ℕ) : Type 0 where
-  pub done : List Posting
-  pub reached : Reached q ss rank done
-  pub counted : at ≡ length done
-  pub stored : Stored 0 done ks₀ rs₀ os₀ ks rs os
-  pub lengths : (length ks ≡ length ks₀) × (length rs ≡ length rs₀) × (length os ≡ length os₀)
-
-pub filling-none : (q : ℕ) (ss : List (List ℕ)) (ks rs os : List ℕ) → Filling q ss ks rs os 0 0 ks rs os
-filling-none q ss ks rs os = record { done = []; reached = reached-none q ss; counted = refl; stored = stored-none 0 ks rs os; lengths = (refl, refl, refl) }
-
-module _ (q : ℕ) (ss : List (List ℕ)) (ks₀ rs₀ os₀ : List ℕ) (room : Room 0 (length (allSeeds q 0 ss)) ks₀ rs₀ os₀) (rank at : ℕ) (ks rs os : List ℕ) (f : Filling q ss ks₀ rs₀ os₀ rank at ks rs os) where
-  pub filling-room : rank < length ss → Room at (starts q (getD ss rank [])) ks rs os
-  filling-room h =
-      let r = reached-room q ss rank (f .done) (f .reached) h in
-      record { keys = omega (arith, room .keys, f .lengths .0, f .counted); ranks = omega (arith, room .ranks, f .lengths .1, f .counted); positions = omega (arith, room .positions, f .lengths .2, f .counted) }
-
-  pub filling-more : 1 ≤ q → rank < length ss → length (getD ss rank []) ≤ maxBases → (at′ : ℕ) (ks′ rs′ os′ : List ℕ) → at′ ≡ at + starts q (getD ss rank []) → length ks′ ≡ length ks → length rs′ ≡ length rs → length os′ ≡ length os → Stored at (seeds q rank (getD ss rank [])) ks rs os ks′ rs′ os′ → Filling q ss ks₀ rs₀ os₀ (rank + 1) at′ ks′ rs′ os′
-  filling-more some h most at′ ks′ rs′ os′ e lk lr lo st =
-      let more = seeds q rank (getD ss rank []) in
-      let r = reached-room q ss rank (f .done) (f .reached) h in
-      let n = length-seeds q rank (getD ss rank []) 0 (starts q (getD ss rank [])) in
-      let z : at ≡ 0 + length (f .done) = omega (arith, f .counted) in
-      record {
-        done = f .done ++ more;
-        reached = reached-more q ss rank (f .done) (f .reached) some h most;
-        counted = omega (arith, f .counted, length-append (f .done) more);
-        stored = stored-join 0 (f .done) ks₀ rs₀ os₀ ks rs os (f .stored) more ks′ rs′ os′ (record { keys = omega (arith, room .keys); ranks = omega (arith, room .ranks); positions = omega (arith, room .positions) }) (rw z at st);
-        lengths = (lk ∙ f .lengths .0, lr ∙ f .lengths .1, lo ∙ f .lengths .2);
-      }
-
-  pub filling-all : length ss ≤ rank → (at ≡ length (allSeeds q 0 ss)) × Stored 0 (allSeeds q 0 ss) ks₀ rs₀ os₀ ks rs os
-  filling-all h = let e = reached-all q ss rank (f .done) (f .reached) h in (f .counted ∙ ap length e, rw e at (f .stored))
-
 -- ---- one rank more, for what is lent
 
 module _ (bases ends ranked : List ℕ) (q : ℕ) (p : Lent bases ends ranked × SeedLength q) (rank : ℕ) (h : rank < length ranked) where
@@ -140,12 +96,3 @@ module _ (bases ends ranked : List ℕ) (q : ℕ) (p : Lent bases ends ranked ×
 
   pub counting-next : (count : ℕ) → Counting q (rankedSequences bases ends ranked) rank count → Counting q (rankedSequences bases ends ranked) (rank + 1) (count + starts q (getD (rankedSequences bases ends ranked) rank []))
   counting-next count c = counting-more q (rankedSequences bases ends ranked) rank count c (p .1 .some) ranked-inside (ranked-length bases ends ranked (p .0) rank h)
-
-  module _ (ks₀ rs₀ os₀ : List ℕ) (room : Room 0 (length (allSeeds q 0 (rankedSequences bases ends ranked))) ks₀ rs₀ os₀) (at : ℕ) (ks rs os : List ℕ)
-      (f : Filling q (rankedSequences bases ends ranked) ks₀ rs₀ os₀ rank at ks rs os) (s : List ℕ) (e : s ≡ getD (rankedSequences bases ends ranked) rank []) where
-    pub room-next : Room at (starts q s) ks rs os
-    room-next = rw e (filling-room q (rankedSequences bases ends ranked) ks₀ rs₀ os₀ room rank at ks rs os f ranked-inside)
-
-    pub filling-next : (at′ : ℕ) (ks′ rs′ os′ : List ℕ) → at′ ≡ at + starts q s → length ks′ ≡ length ks → length rs′ ≡ length rs → length os′ ≡ length os → Stored at (seeds q rank s) ks rs os ks′ rs′ os′ → Filling q (rankedSequences bases ends ranked) ks₀ rs₀ os₀ (rank + 1) at′ ks′ rs′ os′
-    filling-next at′ ks′ rs′ os′ a lk lr lo st =
-        filling-more q (rankedSequences bases ends ranked) ks₀ rs₀ os₀ room rank at ks rs os f (p .1 .some) ranked-inside (ranked-length bases ends ranked (p .0) rank h) at′ ks′ rs′ os′ (rw e at a) lk lr lo (rw e at st)

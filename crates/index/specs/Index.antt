@@ -106,7 +106,21 @@ abbrev pub Climbs : List ℕ → List ℕ → List ℕ → ℕ → Type 0
 Climbs ks rs os zero = Unit {0}
 Climbs ks rs os (suc i) = earlier (row ks rs os i) (row ks rs os (suc i)) ≡ true
 
+-- some of the rows of an index: those from one place up to another
+pub record Block (rows from end : ℕ) : Type 0 where
+  pub some : from < end
+  pub inside : end ≤ rows
+
+-- each row of a block is a seed and later than the row before it
+pub record BlockRight (q : ℕ) (ss : List (List ℕ)) (ks rs os : List ℕ) (from end : ℕ) : Type 0 where
+  pub seeds : (i : ℕ) → from ≤ i → i < end → isSeed q ss (row ks rs os i) ≡ true
+  pub climb : (i : ℕ) → from ≤ i → i < end → Climbs ks rs os i
+
 -- an answer tells whether a statement holds
 pub record Tells (r : Bool) (holds : Type 0) : Type 0 where
   pub yes-so : r ≡ true → holds
+  pub not-so : r ≡ false → holds → ⊥
+
+-- an answer denies a statement only where it does not hold; where it does not deny it, it says nothing
+pub record Denies (r : Bool) (holds : Type 0) : Type 0 where
   pub not-so : r ≡ false → holds → ⊥

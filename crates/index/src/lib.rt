@@ -1,4 +1,3 @@
-// The index of ranked sequences: built and tested.
-pub mod build;
+// The index of ranked sequences: its sequences by rank, and the test of a lent one.
 pub mod ranked;
 pub mod test;

@@ -1,6 +1,6 @@
-// The test of a lent index, in one pass: every row is a seed and earlier than the next, and there are as many as seeds.
+// The test of a lent index, block by block: every row is a seed and earlier than the next, and there are as many as seeds.
 ghost use mathlib.Core.Path.{_≡_};
-ghost use mathlib.Core.Bool.{_&&_};
+ghost use mathlib.Core.Bool.{true, _&&_};
 ghost use Prim.Native.Nat.{_<_};
 ghost use lib.ListN.{length};
 ghost use lib.Dec.{ltb, eqb};
@@ -10,15 +10,19 @@ ghost use Rattle.bases.specs.Base.{Table};
 ghost use Rattle.columns.specs.Posting.{Columns, posting};
 ghost use Rattle.seeds.specs.Key.{keyOf, SeedLength};
 ghost use Rattle.seeds.specs.Window.{starts};
-ghost use Rattle.index.specs.Index.{indexOf, columnsOf, isSeed, RowsRight, Tells, Climbs, Lent, lentSequences};
+ghost use Rattle.index.specs.Index.{indexOf, columnsOf, isSeed, RowsRight, Block, BlockRight, Tells, Denies, Climbs, Lent, lentSequences};
 use crate::ranked::count_postings;
 use crate::ranked::ranked_sequence;
 use bases::base::table;
+use bases::strand::oriented_code;
 use columns::precedes;
 use lookup::read::posting_key;
 use lookup::read::posting_position;
 use lookup::read::posting_rank;
 use seeds::keys::key_at;
+
+// So many rows are tested together: their bases are asked for first, all at once.
+const BLOCK: usize = 64;
 
 // Whether a seed of a sequence has a start and a key.
 fn has_seed(table: &[u16; 256], sequence: &[u8], q: usize, start: usize, key: u64) -> bool
@@ -68,7 +72,111 @@ fn row_climbs(keys: &[u64], ranks: &[u64], positions: &[u64], i: usize) -> bool
     precedes(keys, ranks, positions, i - 1, i)
 }
 
-// Whether every row is a seed and earlier than the next.
+// Where a block of rows that starts at a row ends.
+fn block_end(from: usize, rows: usize) -> usize
+    requires { ⌜ from < rows ⌝ }
+    ensures { λ r. ⌜ Block rows from r ⌝ }
+{
+    if rows - from <= BLOCK {
+        return rows;
+    }
+    from + BLOCK
+}
+
+// Whether the last digit of a key is the last base of a seed; a posting is no seed where it is not.
+fn last_base_right(
+    table: &[u16; 256],
+    key: u64,
+    rank: usize,
+    position: usize,
+    bases: &[u8],
+    ends: &[usize],
+    ranked: &[usize],
+    q: usize,
+) -> bool
+    requires { ⌜ Table (now table) ⌝ }
+    requires { ⌜ Lent (now bases) (now ends) (now ranked) × SeedLength q ⌝ }
+    ensures { λ r. ⌜ Denies r (isSeed q (lentSequences bases ends ranked) (posting key rank position) ≡ true) ⌝ }
+{
+    if rank >= ranked.len() {
+        return false;
+    }
+    let sequence = ranked_sequence(bases, ends, ranked, rank);
+    if sequence.len() < q {
+        return false;
+    }
+    if sequence.len() - q < position {
+        return false;
+    }
+    key % 4 == oriented_code(table, sequence, 0, position + (q - 1))
+}
+
+// Whether the last base of every row of a block is right. It only makes the test quick: no row waits for another, so that
+// the machine reads their bases at the same time, and `block_right`, which tests everything, finds them at hand.
+fn last_bases_right(
+    table: &[u16; 256],
+    keys: &[u64],
+    ranks: &[u64],
+    positions: &[u64],
+    bases: &[u8],
+    ends: &[usize],
+    ranked: &[usize],
+    q: usize,
+    from: usize,
+    end: usize,
+) -> bool
+    requires { ⌜ Table (now table) ⌝ }
+    requires { ⌜ Columns (now keys) (now ranks) (now positions) × (Lent (now bases) (now ends) (now ranked) × SeedLength q) ⌝ }
+    requires { ⌜ Block (length (now keys)) from end ⌝ }
+    ensures { λ r. ⌜ Denies r (RowsRight q (lentSequences bases ends ranked) (old keys) (old ranks) (old positions)) ⌝ }
+{
+    let mut right = true;
+    let mut row = from;
+    while row < end {
+        let key = posting_key(keys, row);
+        let rank = posting_rank(ranks, row);
+        let position = posting_position(positions, row);
+        right = right & last_base_right(table, key, rank, position, bases, ends, ranked, q);
+        row += 1;
+    }
+    right
+}
+
+// Whether every row of a block is a seed and later than the row before it.
+fn block_right(
+    table: &[u16; 256],
+    keys: &[u64],
+    ranks: &[u64],
+    positions: &[u64],
+    bases: &[u8],
+    ends: &[usize],
+    ranked: &[usize],
+    q: usize,
+    from: usize,
+    end: usize,
+) -> bool
+    requires { ⌜ Table (now table) ⌝ }
+    requires { ⌜ Columns (now keys) (now ranks) (now positions) × (Lent (now bases) (now ends) (now ranked) × SeedLength q) ⌝ }
+    requires { ⌜ Block (length (now keys)) from end ⌝ }
+    ensures { λ r. ⌜ Tells r (BlockRight q (lentSequences bases ends ranked) (old keys) (old ranks) (old positions) from end) ⌝ }
+{
+    let mut i = from;
+    while i < end {
+        let key = posting_key(keys, i);
+        let rank = posting_rank(ranks, i);
+        let position = posting_position(positions, i);
+        if !is_seed(table, key, rank, position, bases, ends, ranked, q) {
+            return false;
+        }
+        if !row_climbs(keys, ranks, positions, i) {
+            return false;
+        }
+        i += 1;
+    }
+    true
+}
+
+// Whether every row is a seed and earlier than the next, block by block.
 fn rows_right(
     keys: &[u64],
     ranks: &[u64],
@@ -82,18 +190,38 @@ fn rows_right(
     ensures { λ r. ⌜ Tells r (RowsRight q (lentSequences bases ends ranked) (old keys) (old ranks) (old positions)) ⌝ }
 {
     let table = table();
-    let mut i = 0;
-    while i < keys.len() {
-        let key = posting_key(keys, i);
-        let rank = posting_rank(ranks, i);
-        let position = posting_position(positions, i);
-        if !is_seed(&table, key, rank, position, bases, ends, ranked, q) {
+    let mut from = 0;
+    while from < keys.len() {
+        let end = block_end(from, keys.len());
+        if !last_bases_right(
+            &table,
+            keys,
+            ranks,
+            positions,
+            bases,
+            ends,
+            ranked,
+            q,
+            from,
+            end,
+        ) {
             return false;
         }
-        if !row_climbs(keys, ranks, positions, i) {
+        if !block_right(
+            &table,
+            keys,
+            ranks,
+            positions,
+            bases,
+            ends,
+            ranked,
+            q,
+            from,
+            end,
+        ) {
             return false;
         }
-        i += 1;
+        from = end;
     }
     true
 }

@@ -4,8 +4,8 @@ ghost use Rattle.catalogue.specs.Catalogue.{lentCatalogue};
 ghost use Rattle.ledger.specs.Booking.{lentCounters};
 ghost use Rattle.job_opening.specs.Opened.{JobRoom, JobOpens};
 use audit_rules::settings::Settings;
+use building::build_index;
 use catalogue::ranks::Ranking;
-use index::build::build_index;
 use index::ranked::count_postings;
 use opening::check_opening;
 

@@ -1,6 +1,6 @@
 // The key of a seed, computed afresh and rolled on by one base, for a sequence as it lies on a strand.
 ghost use mathlib.Core.Path.{_≡_};
-ghost use Prim.Native.Nat.{_+_, _^_, _<_};
+ghost use Prim.Native.Nat.{_+_, _-_, _^_, _<_};
 ghost use Rattle.promises.specs.Slice.{old};
 ghost use Rattle.bases.specs.Base.{Table};
 ghost use Rattle.bases.specs.Read.{oriented};
@@ -56,4 +56,24 @@ pub fn key_next(
     let first = oriented_code(table, sequence, strand, start);
     let last = oriented_code(table, sequence, strand, start + q);
     (key - first * high) * 4 + last
+}
+
+// The key at a start, from the key at the one before it; at the first start it is the key itself.
+pub fn key_on(
+    table: &[u16; 256],
+    sequence: &[u8],
+    q: usize,
+    start: usize,
+    high: u64,
+    key: u64,
+) -> u64
+    requires { ⌜ Table (now table) ⌝ }
+    requires { ⌜ SeedIn (now sequence) q start ⌝ }
+    requires { ⌜ KeyHeld (now sequence) q (start - 1) high key ⌝ }
+    ensures { λ r. ⌜ r ≡ keyOf (windowOf (old sequence) start q) ⌝ }
+{
+    if start == 0 {
+        return key;
+    }
+    key_next(table, sequence, 0, q, start - 1, high, key)
 }

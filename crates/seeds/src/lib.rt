@@ -1,3 +1,2 @@
-// Seeds: their keys, and the postings of one sequence.
-pub mod append;
+// Seeds and their keys.
 pub mod keys;

@@ -1,0 +1,71 @@
+-- `index::test::last_base_right` meets its contract: no such rank, too short a sequence, too late a start, or the last base decides.
+-- Assumes nothing.
+use mathlib.Core.Path.{_∙_}
+use native.Mathlib.Omega.{arith}
+use Rattle.index.specs.Index.{rankedSequences}
+use Rattle.index.proofs.Sequencing.{ranked-many}
+use Rattle.index.proofs.Testing.{short-sequence, late-start, no-rank, some-rank, denied, by-last}
+use borrow.Author.Needs.{needs}
+use Rattle.index.proofs.test.last_base_right.Statement.{statement}
+use Rattle.index.proofs.test.last_base_right.Tie as tie
+
+returns : tie.Need-returns
+returns c =
+    let a = c .before .before .before .before .args in
+    let ss = rankedSequences (a .bases .now) (a .ends .now) (a .ranked .now) in
+    let z = ranked-many (a .bases .now) (a .ends .now) (a .ranked .now) in
+    denied (no-rank (a .q) ss (a .key) (a .rank) (a .position) (omega (arith, z, c .if1 .taken)))
+
+ranked-sequence-requires : tie.Need-ranked-sequence-requires
+ranked-sequence-requires c κs = search needs
+
+returns-2 : tie.Need-returns-2
+returns-2 c =
+    let a = c .before .before .before .before .before .before .args in
+    let ss = rankedSequences (a .bases .now) (a .ends .now) (a .ranked .now) in
+    let z = ranked-many (a .bases .now) (a .ends .now) (a .ranked .now) in
+    let s = c .before .ranked-sequence in
+    denied (short-sequence (a .q) (s .result .now) (a .position) (a .key) (c .if2 .taken) ∙ some-rank (a .q) ss (a .key) (a .rank) (a .position) (omega (arith, z, c .before .before .if1 .left)) (s .result .now) (s .ensures))
+
+sub-if3 : tie.Need-sub-if3
+sub-if3 c = search needs
+
+returns-3 : tie.Need-returns-3
+returns-3 c =
+    let a = c .before .before .before .before .before .before .before .args in
+    let ss = rankedSequences (a .bases .now) (a .ends .now) (a .ranked .now) in
+    let z = ranked-many (a .bases .now) (a .ends .now) (a .ranked .now) in
+    let s = c .before .before .ranked-sequence in
+    denied (late-start (a .q) (s .result .now) (a .position) (a .key) (c .before .if2 .left) (c .if3 .taken) ∙ some-rank (a .q) ss (a .key) (a .rank) (a .position) (omega (arith, z, c .before .before .before .if1 .left)) (s .result .now) (s .ensures))
+
+sub-oriented-code : tie.Need-sub-oriented-code
+sub-oriented-code c = search needs
+
+add-oriented-code : tie.Need-add-oriented-code
+add-oriented-code c = search needs
+
+oriented-code-requires : tie.Need-oriented-code-requires
+oriented-code-requires c κs = search needs
+
+returns-4 : tie.Need-returns-4
+returns-4 c =
+    let b = c .before .before .before .before .before .before .before .before in
+    let a = b .args in
+    let ss = rankedSequences (a .bases .now) (a .ends .now) (a .ranked .now) in
+    let z = ranked-many (a .bases .now) (a .ends .now) (a .ranked .now) in
+    let s = c .before .before .before .ranked-sequence in
+    by-last (a .q) ss (a .key) (a .rank) (a .position) (b .pre .1 .0 .capitals) (b .pre .1 .1 .some) (omega (arith, z, c .before .before .before .before .if1 .left)) (s .result .now) (s .ensures) (omega arith) _ _ (c .oriented-code .ensures) (omega arith)
+
+pub last-base-right-spec : {M : Type 1} → statement M
+last-base-right-spec =
+    tie.close
+    (tie.spec
+    returns
+    ranked-sequence-requires
+    returns-2
+    sub-if3
+    returns-3
+    sub-oriented-code
+    add-oriented-code
+    oriented-code-requires
+    returns-4)

@@ -1,0 +1,3 @@
+pub mod Keyed
+pub mod Tallying
+pub mod Putting
