@@ -1,8 +1,8 @@
 //! The same targets and reads through bowtie, where it is installed: exact placements, all of them, by one thread.
 //!
 //! Its times are those of whole programs: `bowtie-build` reads targets and writes its index; `bowtie` loads that index, reads the
-//! reads and writes a line for each placement. What loading takes is measured by a run over one read; what writing takes, by a
-//! run that writes nothing (`-S` left out, lines suppressed).
+//! reads and writes a line for each placement. What loading takes is measured by a run over one read; what lines take, by a run
+//! whose lines are empty.
 
 use crate::sets::Set;
 use crate::{median, timed};
@@ -78,7 +78,7 @@ fn measure(set: &Set, folder: &Path, ours: &mut [Placement]) -> io::Result<bool>
         timed(&mut times[3], || call("bowtie", &silent, &[&index, &reads, Path::new("/dev/null")]))?;
     }
     let [build, map, load, unwritten] = times.each_mut().map(|t| median(t));
-    println!("  bowtie    building {build:.3} s, files read and written; mapping {map:.3} s, of it loading {load:.3} s, lines {:.3} s", map - unwritten);
+    println!("  bowtie    building {build:.3} s, files read and written; mapping {map:.3} s, of it loading {load:.3} s, lines {:.3} s", (map - unwritten).max(0.0));
     let theirs = placements(&found);
     ours.sort_unstable();
     let equal = ours.iter().zip(&theirs).filter(|(a, b)| a == b).count();
