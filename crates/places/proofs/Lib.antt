@@ -1,3 +1,4 @@
+pub mod Alike
 pub mod Comparing
 pub mod Placing
 pub mod Swapping

@@ -7,6 +7,8 @@ ghost use Rattle.promises.specs.Slice.{old};
 ghost use Rattle.places.specs.Place.{Laid, stands, standsTo};
 use bases::strand::oriented_agrees;
 
+pub mod agreeing;
+
 // How many bases are compared at once: enough for a comparison of many bases by one instruction.
 const STRETCH: usize = 64;
 

@@ -15,8 +15,9 @@ use Rattle.lists.proofs.Every.{every-at}
 use Rattle.bases.specs.Read.{capitals}
 use Rattle.index.specs.Index.{rankedSequences, Lent}
 use Rattle.index.proofs.Sequencing.{ranked-many}
-use Rattle.rarest.specs.Shown.{agreeing, Reach, Agreed, GoesOn, Shown, Behind, PostingLent, ShowLent}
-use Rattle.rarest.proofs.Alike.{agree-each, each-agree}
+use Rattle.places.specs.Agreeing.{agreeing, Reach, Agreed}
+use Rattle.places.proofs.Alike.{agree-each, each-agree}
+use Rattle.rarest.specs.Shown.{GoesOn, Shown, Behind, PostingLent, ShowLent}
 
 -- ---- fewer bases
 

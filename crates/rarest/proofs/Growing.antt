@@ -31,8 +31,9 @@ use Rattle.lookup.specs.Range.{RangeOf}
 use Rattle.index.specs.Index.{indexOf, isSeed, hits, Indexed}
 use Rattle.index.proofs.Indexing.{index-ascending, seed-∈-index, index-∈-seed}
 use Rattle.candidates.specs.Search.{keyCount, offsetCount}
-use Rattle.rarest.specs.Shown.{agreeing, GoesOn, Shown}
-use Rattle.rarest.proofs.Alike.{agree-more, agree-part, agree-key, key-agree}
+use Rattle.places.specs.Agreeing.{agreeing}
+use Rattle.places.proofs.Alike.{agree-more, agree-part, agree-key, key-agree}
+use Rattle.rarest.specs.Shown.{GoesOn, Shown}
 
 -- a search that finds nothing goes through all
 stopped-none : {A : Type 0} (xs : List A) (n : ℕ) → stopped (λ (z : A). false) xs n ≡ xs

@@ -1,4 +1,3 @@
-pub mod Alike
 pub mod Behind
 pub mod Growing
 pub mod Lending

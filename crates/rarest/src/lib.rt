@@ -14,7 +14,6 @@ use seeds::keys::key_at;
 use showing::looks_again;
 use showing::shown;
 
-pub mod agreeing;
 pub mod showing;
 
 // A seed's offset, the places of its postings from start up to end, and the lookups made so far.

@@ -7,10 +7,10 @@ ghost use Rattle.promises.specs.Slice.{old};
 ghost use Rattle.bases.specs.Read.{oriented};
 ghost use Rattle.index.specs.Index.{lentSequences};
 ghost use Rattle.rarest.specs.Shown.{PostingLent, Behind, ShowLent, Shown};
-use crate::agreeing::agreement;
 use index::ranked::ranked_sequence;
 use lookup::read::posting_position;
 use lookup::read::posting_rank;
+use places::agreeing::agreement;
 
 // The most postings, and the most bases behind each, that are looked at: no more than a lookup costs.
 const MOST_POSTINGS: usize = 32;

@@ -2,7 +2,7 @@
 ghost use mathlib.Core.Path.{_≡_};
 ghost use Rattle.promises.specs.Slice.{old};
 ghost use Rattle.bases.specs.Read.{oriented};
-ghost use Rattle.rarest.specs.Shown.{agreeing, stretch, Reach, Agreed};
+ghost use Rattle.places.specs.Agreeing.{agreeing, stretch, Reach, Agreed};
 use bases::strand::oriented_agrees;
 
 // How many bases are compared at once.

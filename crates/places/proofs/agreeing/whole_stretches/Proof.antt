@@ -1,14 +1,14 @@
--- `rarest::agreeing::whole_stretches` meets its contract: stretch by stretch.
+-- `places::agreeing::whole_stretches` meets its contract: stretch by stretch.
 -- Assumes nothing.
 use mathlib.Core.Path.{refl, sym, _∙_}
 use Prim.Native.Nat.{_-_}
 use native.Mathlib.Omega.{arith}
 use borrow.Author.Tests.{not-false}
 use Rattle.bases.specs.Read.{oriented}
-use Rattle.rarest.specs.Shown.{stretch, Agreed}
-use Rattle.rarest.proofs.Alike.{agree-more, reach-part}
-use Rattle.rarest.proofs.agreeing.whole_stretches.Statement.{statement}
-use Rattle.rarest.proofs.agreeing.whole_stretches.Tie as tie
+use Rattle.places.specs.Agreeing.{stretch, Agreed}
+use Rattle.places.proofs.Alike.{agree-more, reach-part}
+use Rattle.places.proofs.agreeing.whole_stretches.Statement.{statement}
+use Rattle.places.proofs.agreeing.whole_stretches.Tie as tie
 
 abbrev Inv-loop : tie.InvT-loop
 Inv-loop sequence at read strand from most k₀ k = Agreed sequence at (oriented strand read) from most k

@@ -1,4 +1,4 @@
--- `rarest::agreeing::stretch_agrees` meets its contract. The invariant: agree says whether the first k bases do.
+-- `places::agreeing::stretch_agrees` meets its contract. The invariant: agree says whether the first k bases do.
 -- Assumes nothing.
 use mathlib.Core.Path.{_≡_, refl, ap, ap₂, _∙_}
 use mathlib.Core.Bool.{_&&_}
@@ -6,10 +6,10 @@ use Prim.Native.Nat.{_-_, _≤_}
 use native.Mathlib.Omega.{arith}
 use native.Mathlib.Numerals.{add-one}
 use Rattle.bases.specs.Read.{oriented}
-use Rattle.rarest.specs.Shown.{agreeing, stretch}
-use Rattle.rarest.proofs.Alike.{letters-there}
-use Rattle.rarest.proofs.agreeing.stretch_agrees.Statement.{statement}
-use Rattle.rarest.proofs.agreeing.stretch_agrees.Tie as tie
+use Rattle.places.specs.Agreeing.{agreeing, stretch}
+use Rattle.places.proofs.Alike.{letters-there}
+use Rattle.places.proofs.agreeing.stretch_agrees.Statement.{statement}
+use Rattle.places.proofs.agreeing.stretch_agrees.Tie as tie
 
 abbrev Inv-loop : tie.InvT-loop
 Inv-loop sequence at read strand from agree₀ k₀ agree k = (k ≤ stretch) × (agree ≡ agreeing k sequence at (oriented strand read) from)

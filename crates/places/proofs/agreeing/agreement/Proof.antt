@@ -1,14 +1,14 @@
--- `rarest::agreeing::agreement` meets its contract: whole stretches, then base by base.
+-- `places::agreeing::agreement` meets its contract: whole stretches, then base by base.
 -- Assumes nothing.
 use mathlib.Core.Path.{sym, _∙_}
 use Prim.Native.Nat.{_-_}
 use native.Mathlib.Omega.{arith}
 use borrow.Author.Tests.{not-false}
 use Rattle.bases.specs.Read.{oriented}
-use Rattle.rarest.specs.Shown.{Agreed}
-use Rattle.rarest.proofs.Alike.{agreed-one, letters-there}
-use Rattle.rarest.proofs.agreeing.agreement.Statement.{statement}
-use Rattle.rarest.proofs.agreeing.agreement.Tie as tie
+use Rattle.places.specs.Agreeing.{Agreed}
+use Rattle.places.proofs.Alike.{agreed-one, letters-there}
+use Rattle.places.proofs.agreeing.agreement.Statement.{statement}
+use Rattle.places.proofs.agreeing.agreement.Tie as tie
 
 abbrev Inv-loop : tie.InvT-loop
 Inv-loop sequence at read strand from most k₀ k = Agreed sequence at (oriented strand read) from most k

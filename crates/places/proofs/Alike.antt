@@ -18,7 +18,7 @@ use Rattle.bases.proofs.Bytes.{letter-capital}
 use Rattle.seeds.specs.Key.{keyOf}
 use Rattle.seeds.specs.Window.{windowOf}
 use Rattle.seeds.proofs.Keying.{key-more}
-use Rattle.rarest.specs.Shown.{agreeing, Reach, Agreed}
+use Rattle.places.specs.Agreeing.{agreeing, Reach, Agreed}
 
 module _ (a : List ℕ) (i : ℕ) (b : List ℕ) (j : ℕ) where
   abbrev Same : ℕ → Type 0
