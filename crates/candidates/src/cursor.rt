@@ -26,7 +26,7 @@ pub struct Candidate {
 }
 
 // Whether a target has room for a read of n bases whose base `offset` stands at a position.
-fn has_room(sequence: &[u8], n: usize, offset: usize, position: usize) -> bool
+pub fn has_room(sequence: &[u8], n: usize, offset: usize, position: usize) -> bool
     ensures { λ r. ⌜ r ≡ fits (old sequence) n offset position ⌝ }
 {
     if position < offset {

@@ -4,7 +4,7 @@ use mathlib.Core.Path.{_≡_, refl, sym, ap, ap₂, _∙_}
 use mathlib.Core.Bool.{Bool, true, false, cond, not, _||_}
 use mathlib.Core.List.{List, [], _∷_, _++_, append-nil, append-assoc}
 use mathlib.Core.Logic.{inl, inr}
-use Prim.Native.Nat.{ℕ, _+_, _*_, _≤_, _<_}
+use Prim.Native.Nat.{ℕ, suc, _+_, _*_, _≤_, _<_}
 use native.Mathlib.Omega.{arith}
 use lib.ListN.{length, length-append}
 use borrow.Author.Tests.{le-ltb, eq-eqb, ne-eqb}
@@ -28,7 +28,9 @@ use Rattle.candidates.specs.declared.cursor.Candidate.{Candidate}
 use Rattle.candidates.specs.declared.sides.Sides.{Sides}
 use Rattle.candidates.proofs.Candidates.{candidates-ascending, comparable-∈}
 use Rattle.scan.specs.Searched.{maxCount, Going, Searched}
-use Rattle.scan.proofs.Going.{Progress, searched-bounded, progress-none, progress-length, progress-going, progress-more, progress-stop}
+use Rattle.scan.proofs.Going.{place-differs, Progress, searched-bounded, progress-none, progress-length, progress-going, progress-more, progress-stop}
+use Rattle.passing.specs.Passing.{placeOf, firstOf, PassedOne, PassedOver}
+use Rattle.passing.proofs.Siding.{steps-fold}
 use Rattle.index_search.specs.Work.{onStrand}
 use Rattle.index_search.specs.Steps.{Front}
 use Rattle.index_search.proofs.Seeking.{chosen-offset, chosen-hits, in-index, comparable-few}
@@ -237,3 +239,20 @@ module _ (q : ℕ) (ss : List (List ℕ)) (ranked read : List ℕ) (bound : ℕ)
 
             pub both-more : Both sides′ c′ s′ b′
             both-more = by-test first plus-more minus-more
+
+    -- ---- candidates passed over
+
+    one-passed : (sides : Sides) (c s : ℕ) (b : List ℕ) → Both sides c s b → (sides′ : Sides) → PassedOne ss read rs os sides sides′ → Both sides′ (c + 1) s b
+    one-passed sides c s b at sides′ one =
+        both-more sides c s b at (plusFirst sides) refl (one .waits) (firstOf sides) refl (c + 1) s b (place-differs ss ranked read bound (placeOf (firstOf sides)) c s b (one .differs)) (at .progress .within) sides′ (one .moved)
+
+    pub both-passed : (k : ℕ) (sides sides′ : Sides) (c s : ℕ) (b : List ℕ) → Both sides c s b → PassedOver ss read rs os k sides sides′ → Both sides′ (c + k) s b
+    both-passed k sides sides′ c s b at =
+        let z : c + 0 ≡ c = omega arith in
+        steps-fold (PassedOne ss read rs os) (λ j x. Both x (c + j) s b)
+        (λ j x y at′ one. (let e : c + suc j ≡ c + j + 1 = omega arith in rw e (one-passed x (c + j) s b at′ y one)))
+        k sides sides′ (rw z at)
+
+    -- no more places are compared than there are
+    pub both-few : (sides : Sides) (c s : ℕ) (b : List ℕ) → Both sides c s b → c ≤ 2 * maxStarts
+    both-few sides c s b at = omega (arith, ch .few, comparable-few q ss read (ch .long), ap length (at .whole), length-append (at .done) (merge before (at .plus-left) (at .minus-left)), searched-bounded ss ranked read bound (at .done) 0 0 buffer c s b (omega arith) (at .progress .searched))

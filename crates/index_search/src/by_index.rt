@@ -1,9 +1,10 @@
 // The search by index: the candidates of both strands, the smaller one compared first.
 ghost use mathlib.Core.Path.{_≡_};
-ghost use Prim.Native.Nat.{_*_, _≤_};
+ghost use Prim.Native.Nat.{_+_, _*_, _≤_};
 ghost use lib.ListN.{length};
 ghost use Rattle.promises.specs.Slice.{old, new};
 ghost use Rattle.index.specs.Index.{lentSequences};
+ghost use Rattle.scan.specs.Searched.{maxCount};
 ghost use Rattle.index_search.specs.Work.{byIndex};
 ghost use Rattle.index_search.specs.Steps.{IndexSearchable, Front, Found, indexWork, Spans};
 use crate::work::MappingWork;
@@ -11,6 +12,8 @@ use crate::work::work_of;
 use candidates::cursor::OrientationCursor;
 use candidates::sides::Sides;
 use candidates::sides::first_candidates;
+use passing::pass;
+use places::looking::looks_again;
 use rarest::SeedChoice;
 use rarest::rarest_seed;
 use scan::visit::Tally;
@@ -41,6 +44,17 @@ fn index_work(plus: SeedChoice, minus: SeedChoice, sides: Sides, tally: Tally) -
         (forward + backward) as u64,
         tally,
     )
+}
+
+// A tally with as many comparisons more, of candidates that were passed over.
+fn counted(tally: Tally, n: usize) -> Tally
+    requires { ⌜ tally .comparisons + n ≤ maxCount ⌝ }
+    ensures { λ r. ⌜ (r .comparisons ≡ tally .comparisons + n) × (r .seen ≡ tally .seen) ⌝ }
+{
+    Tally {
+        comparisons: tally.comparisons + n as u64,
+        seen: tally.seen,
+    }
 }
 
 // The candidates of both strands, the smaller one compared first, up to the first match past the bound.
@@ -78,6 +92,7 @@ pub fn search_index(
         comparisons: 0,
         seen: 0,
     };
+    let mut look = true;
     while sides.waits() {
         let plus_first = sides.plus_first();
         let next = sides.side(plus_first);
@@ -106,6 +121,20 @@ pub fn search_index(
             positions,
             read.len(),
         );
+        let passed = pass(
+            look,
+            next,
+            sides,
+            bases,
+            ends,
+            ranked,
+            ranks,
+            positions,
+            read,
+        );
+        sides = passed.sides;
+        tally = counted(tally, passed.count);
+        look = looks_again(passed.count, cursor.next);
     }
     index_work(plus, minus, sides, tally)
 }

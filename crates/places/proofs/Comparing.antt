@@ -1,7 +1,7 @@
 -- A comparison goes base by base.
 -- Assumes nothing.
 use mathlib.Core.Path.{_≡_, refl, sym, ap, _∙_}
-use mathlib.Core.Bool.{true, false, _&&_}
+use mathlib.Core.Bool.{Bool, true, false, _&&_}
 use mathlib.Core.List.{List}
 use Prim.Native.Nat.{ℕ, zero, suc, _+_, _<_, _≤_}
 use native.Mathlib.Omega.{arith}
@@ -31,6 +31,10 @@ oriented-letters zero read t = t
 oriented-letters (suc s) read t = letters-turned read ∙ t
 
 -- ---- the first bases of a read compared
+
+neither : (b : Bool) → (b && false) ≡ false
+neither true = refl
+neither false = refl
 
 module _ (s : List ℕ) (start : ℕ) (read : List ℕ) (strand : ℕ) where
   pub compared-differ : (i j : ℕ) → i ≤ j → standsTo i s start read strand ≡ false → standsTo j s start read strand ≡ false
@@ -70,3 +74,7 @@ module _ (s : List ℕ) (start : ℕ) (read : List ℕ) (strand : ℕ) where
         ap (λ n. standsTo n s start read strand) (add-one i)
         ∙ same-next (drop start s) (oriented strand (folded read)) i inside-s inside-o
         ∙ ap (λ b. standsTo i s start read strand && b) (ap (λ n. eqb n (getD (oriented strand (folded read)) i 0)) (getD-drop start s i 0) ∙ ap (eqb x) at-o ∙ codes-decide x (upperOf y) base-s base-o ∙ ap (eqb (codeOf x)) (code-upper y))
+
+    -- a base that differs is enough
+    pub compared-differs : eqb (codeOf (getD s (start + i) 0)) (codeOf (getD (oriented strand read) i 0)) ≡ false → stands s start read strand ≡ false
+    compared-differs e = sym compared-all ∙ compared-differ (i + 1) (length read) (omega arith) (compared-next ∙ ap (λ b. standsTo i s start read strand && b) e ∙ neither (standsTo i s start read strand))

@@ -1,6 +1,6 @@
 -- Places of a read in sequences by rank, and where it matches (REFERENCE.md, "Places").
 use mathlib.Core.Path.{_≡_}
-use mathlib.Core.Bool.{Bool, true}
+use mathlib.Core.Bool.{Bool, true, false}
 use mathlib.Core.List.{List, [], _∷_, _++_}
 use Prim.Native.Nat.{ℕ, zero, suc, _+_, _-_, _≤_, _<_}
 use lib.ListN.{length, getD, take}
@@ -63,6 +63,10 @@ stands s start read strand = same (windowOf s start (length read)) (oriented str
 -- its first i bases do
 abbrev pub standsTo : ℕ → List ℕ → ℕ → List ℕ → ℕ → Bool
 standsTo i s start read strand = same (windowOf s start i) (take i (oriented strand (folded read)))
+
+-- a read is said to differ only where it does not stand; where it is not, nothing is said
+abbrev pub SaidToDiffer : Bool → List ℕ → ℕ → List ℕ → ℕ → Type 0
+SaidToDiffer r s start read strand = r ≡ true → stands s start read strand ≡ false
 
 -- the read stands at the place
 unfoldable pub matches : List (List ℕ) → List ℕ → Place → Bool

@@ -10,8 +10,8 @@ ghost use Rattle.rarest.specs.Choosing.{Better, Counted};
 use bases::base::table;
 use lookup::lookup::Range;
 use lookup::lookup::posting_range;
+use places::looking::looks_again;
 use seeds::keys::key_at;
-use showing::looks_again;
 use showing::shown;
 
 pub mod showing;

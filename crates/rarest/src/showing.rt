@@ -1,8 +1,4 @@
 // How many offsets behind a seed have no fewer postings, as far as its own postings show.
-ghost use mathlib.Core.Path.{_≡_};
-ghost use mathlib.Core.Bool.{_||_};
-ghost use Prim.Native.Nat.{_%_, _≤_};
-ghost use lib.Dec.{ltb, eqb};
 ghost use Rattle.promises.specs.Slice.{old};
 ghost use Rattle.bases.specs.Read.{oriented};
 ghost use Rattle.index.specs.Index.{lentSequences};
@@ -11,17 +7,12 @@ use index::ranked::ranked_sequence;
 use lookup::read::posting_position;
 use lookup::read::posting_rank;
 use places::agreeing::agreement;
+use places::looking::least;
 
 // The most postings, and the most bases behind each, that are looked at: no more than a lookup costs.
 const MOST_POSTINGS: usize = 32;
 
 const MOST_BASES: usize = 128;
-
-fn least(a: usize, b: usize) -> usize
-    ensures { λ r. ⌜ (r ≤ a) × (r ≤ b) ⌝ }
-{
-    if a < b { a } else { b }
-}
 
 // How many bases behind a posting agree with those behind the seed at offset o, up to a bound and to the target's last base.
 fn behind_posting(
@@ -86,17 +77,6 @@ fn behind_all(
         i += 1;
     }
     left
-}
-
-// Whether postings are looked at for an offset: they are where the last look showed something, and else at one offset in eight, so that
-// looks that show nothing cost little.
-pub(crate) fn looks_again(skip: usize, o: usize) -> bool
-    ensures { λ r. ⌜ r ≡ (ltb 0 skip || eqb (o % 8) 0) ⌝ }
-{
-    if 0 < skip {
-        return true;
-    }
-    o % 8 == 0
 }
 
 // How many of the `most` offsets behind offset o are known to have no fewer postings than the seed there; none if nobody looks.

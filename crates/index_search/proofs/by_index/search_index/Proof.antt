@@ -1,22 +1,22 @@
--- `search::by_index::search_index` meets its contract. The invariant: `Both`, two sides and what was compared.
+-- `index_search::by_index::search_index` meets its contract. The invariant: `Both`, two sides and what was compared.
 -- Assumes nothing.
 use borrow.Author.Needs.{needs}
-use mathlib.Core.Path.{sym, _∙_}
+use mathlib.Core.Path.{refl, sym, _∙_}
 use native.Mathlib.Omega.{arith}
 use Prim.Native.Nat.{_-_, _*_}
 use Rattle.index.specs.Index.{rankedSequences, maxStarts}
-use Rattle.index_search.proofs.Merging.{Both, both-start, both-fits, both-going, both-more, both-fewer, both-counted, both-length}
+use Rattle.index_search.proofs.Merging.{Both, both-start, both-fits, both-going, both-more, both-fewer, both-counted, both-length, both-passed, both-few}
 use Rattle.index_search.proofs.Finding.{found-all, found-stopped}
 use Rattle.index_search.proofs.Readying.{ready-choice, ready-cursor, ready-chosen, ready-spans, ready-cursors}
 use Rattle.index_search.proofs.by_index.search_index.Statement.{statement}
 use Rattle.index_search.proofs.by_index.search_index.Tie as tie
 
 abbrev Inv-loop : tie.InvT-loop
-Inv-loop entries₀ bases ends ranked keys ranks positions q read bound plus minus sides₀ tally₀ entries sides tally =
+Inv-loop entries₀ bases ends ranked keys ranks positions q read bound plus minus sides₀ tally₀ look₀ entries sides tally look =
     Both q (rankedSequences bases ends ranked) ranked read bound plus minus entries₀ sides (tally .comparisons) (tally .seen) entries
 
 abbrev μ-loop : tie.MeasureT-loop
-μ-loop entries₀ bases ends ranked keys ranks positions q read bound plus minus sides₀ tally₀ entries sides tally =
+μ-loop entries₀ bases ends ranked keys ranks positions q read bound plus minus sides₀ tally₀ look₀ entries sides tally look =
     2 * maxStarts - tally .comparisons
 
 rarest-seed-requires : tie.Need-rarest-seed-requires Inv-loop μ-loop
@@ -120,8 +120,8 @@ moved-requires c κs =
     let m = c .before .before .before .before .before .before .before .before .before .before .before .before .before .before .before .rarest-seed2 .ensures in
     (z .pre .0 .searchable .lent, ready-cursors _ _ _ _ _ _ _ _ (z .pre .0) (z .pre .1 .0) _ _ p m (a .bound) (a .entries .now) _ _ _ _ (c .before .before .before .before .before .before .before .before .before .before .before .loop .inv))
 
-loop-less : tie.Need-loop-less Inv-loop μ-loop
-loop-less c =
+pass-requires : tie.Need-pass-requires Inv-loop μ-loop
+pass-requires c κs =
     let z = c .before .before .before .before .before .before .before .before .before .before .before .before .before .before .before .before .before .before .before .before .before .before .before .before .before .before in
     let a = z .args in
     let p = c .before .before .before .before .before .before .before .before .before .before .before .before .before .before .before .before .before .rarest-seed .ensures in
@@ -132,22 +132,64 @@ loop-less c =
     let first = c .before .before .before .before .before .before .before .before .before .plus-first .ensures in
     let waits = sym (c .before .before .before .before .before .before .before .before .before .before .before .waits .ensures) ∙ c .before .before .before .before .before .before .before .before .before .before .if1 .taken in
     let next = c .before .before .before .before .before .before .before .before .side .ensures in
-    let t = c .before .before .before .before .before .visit .ensures in
-    omega (arith, both-fewer _ ss (a .ranked .now) _ _ _ _ _ _ _ _ ch _ _ _ _ at _ first waits _ next, both-counted _ ss (a .ranked .now) _ _ _ _ _ _ _ _ ch _ _ _ _ at _ first waits _ next _ _ _ t)
+    let on = both-more _ ss (a .ranked .now) _ _ _ _ _ _ _ _ ch _ _ _ _ at _ first waits _ next _ _ _ (c .before .before .before .before .before .visit .ensures) (omega (arith, c .before .if2 .left)) _ (c .moved .ensures) in
+    (
+      z .pre .0 .searchable,
+      record {
+        inside = both-fits _ ss (a .ranked .now) _ _ _ _ _ _ _ _ ch _ _ _ _ at _ first waits _ next;
+        first-inside = λ w. both-fits _ ss (a .ranked .now) _ _ _ _ _ _ _ _ ch _ _ _ _ on _ refl w _ refl;
+        cursors-in = ready-cursors _ _ _ _ _ _ _ _ (z .pre .0) (z .pre .1 .0) _ _ p m (a .bound) (a .entries .now) _ _ _ _ on;
+      },
+    )
+
+counted-requires : tie.Need-counted-requires Inv-loop μ-loop
+counted-requires c κs =
+    let z = c .before .before .before .before .before .before .before .before .before .before .before .before .before .before .before .before .before .before .before .before .before .before .before .before .before .before .before .before in
+    let a = z .args in
+    let p = c .before .before .before .before .before .before .before .before .before .before .before .before .before .before .before .before .before .before .before .rarest-seed .ensures in
+    let m = c .before .before .before .before .before .before .before .before .before .before .before .before .before .before .before .before .before .before .rarest-seed2 .ensures in
+    let ss = rankedSequences (a .bases .now) (a .ends .now) (a .ranked .now) in
+    let ch = ready-chosen _ _ _ _ _ _ _ _ (z .pre .0) (z .pre .1 .0) _ _ p m _ _ (z .pre .1 .1) in
+    let at = c .before .before .before .before .before .before .before .before .before .before .before .before .before .before .loop .inv in
+    let first = c .before .before .before .before .before .before .before .before .before .before .before .plus-first .ensures in
+    let waits = sym (c .before .before .before .before .before .before .before .before .before .before .before .before .before .waits .ensures) ∙ c .before .before .before .before .before .before .before .before .before .before .before .before .if1 .taken in
+    let next = c .before .before .before .before .before .before .before .before .before .before .side .ensures in
+    let on = both-more _ ss (a .ranked .now) _ _ _ _ _ _ _ _ ch _ _ _ _ at _ first waits _ next _ _ _ (c .before .before .before .before .before .before .before .visit .ensures) (omega (arith, c .before .before .before .if2 .left)) _ (c .before .before .moved .ensures) in
+    omega (arith, both-few _ ss (a .ranked .now) _ _ _ _ _ _ _ _ ch _ _ _ _ (both-passed _ ss (a .ranked .now) _ _ _ _ _ _ _ _ ch (c .before .pass .result .count) _ _ _ _ _ on (c .before .pass .ensures)))
+
+looks-again-requires : tie.Need-looks-again-requires Inv-loop μ-loop
+looks-again-requires c κs = search needs
+
+loop-less : tie.Need-loop-less Inv-loop μ-loop
+loop-less c =
+    let z = c .before .before .before .before .before .before .before .before .before .before .before .before .before .before .before .before .before .before .before .before .before .before .before .before .before .before .before .before .before .before in
+    let a = z .args in
+    let p = c .before .before .before .before .before .before .before .before .before .before .before .before .before .before .before .before .before .before .before .before .before .rarest-seed .ensures in
+    let m = c .before .before .before .before .before .before .before .before .before .before .before .before .before .before .before .before .before .before .before .before .rarest-seed2 .ensures in
+    let ss = rankedSequences (a .bases .now) (a .ends .now) (a .ranked .now) in
+    let ch = ready-chosen _ _ _ _ _ _ _ _ (z .pre .0) (z .pre .1 .0) _ _ p m _ _ (z .pre .1 .1) in
+    let at = c .before .before .before .before .before .before .before .before .before .before .before .before .before .before .before .before .loop .inv in
+    let first = c .before .before .before .before .before .before .before .before .before .before .before .before .before .plus-first .ensures in
+    let waits = sym (c .before .before .before .before .before .before .before .before .before .before .before .before .before .before .before .waits .ensures) ∙ c .before .before .before .before .before .before .before .before .before .before .before .before .before .before .if1 .taken in
+    let next = c .before .before .before .before .before .before .before .before .before .before .before .before .side .ensures in
+    let t = c .before .before .before .before .before .before .before .before .before .visit .ensures in
+    omega (arith, both-fewer _ ss (a .ranked .now) _ _ _ _ _ _ _ _ ch _ _ _ _ at _ first waits _ next, both-counted _ ss (a .ranked .now) _ _ _ _ _ _ _ _ ch _ _ _ _ at _ first waits _ next _ _ _ t, c .before .counted .ensures)
 
 loop-again : tie.Need-loop-again Inv-loop μ-loop
 loop-again c =
-    let z = c .before .before .before .before .before .before .before .before .before .before .before .before .before .before .before .before .before .before .before .before .before .before .before .before .before .before in
+    let z = c .before .before .before .before .before .before .before .before .before .before .before .before .before .before .before .before .before .before .before .before .before .before .before .before .before .before .before .before .before .before in
     let a = z .args in
-    let p = c .before .before .before .before .before .before .before .before .before .before .before .before .before .before .before .before .before .rarest-seed .ensures in
-    let m = c .before .before .before .before .before .before .before .before .before .before .before .before .before .before .before .before .rarest-seed2 .ensures in
+    let p = c .before .before .before .before .before .before .before .before .before .before .before .before .before .before .before .before .before .before .before .before .before .rarest-seed .ensures in
+    let m = c .before .before .before .before .before .before .before .before .before .before .before .before .before .before .before .before .before .before .before .before .rarest-seed2 .ensures in
     let ss = rankedSequences (a .bases .now) (a .ends .now) (a .ranked .now) in
     let ch = ready-chosen _ _ _ _ _ _ _ _ (z .pre .0) (z .pre .1 .0) _ _ p m _ _ (z .pre .1 .1) in
-    let at = c .before .before .before .before .before .before .before .before .before .before .before .before .loop .inv in
-    let first = c .before .before .before .before .before .before .before .before .before .plus-first .ensures in
-    let waits = sym (c .before .before .before .before .before .before .before .before .before .before .before .waits .ensures) ∙ c .before .before .before .before .before .before .before .before .before .before .if1 .taken in
-    let next = c .before .before .before .before .before .before .before .before .side .ensures in
-    both-more _ ss (a .ranked .now) _ _ _ _ _ _ _ _ ch _ _ _ _ at _ first waits _ next _ _ _ (c .before .before .before .before .before .visit .ensures) (omega (arith, c .before .if2 .left)) _ (c .moved .ensures)
+    let at = c .before .before .before .before .before .before .before .before .before .before .before .before .before .before .before .before .loop .inv in
+    let first = c .before .before .before .before .before .before .before .before .before .before .before .before .before .plus-first .ensures in
+    let waits = sym (c .before .before .before .before .before .before .before .before .before .before .before .before .before .before .before .waits .ensures) ∙ c .before .before .before .before .before .before .before .before .before .before .before .before .before .before .if1 .taken in
+    let next = c .before .before .before .before .before .before .before .before .before .before .before .before .side .ensures in
+    let on = both-more _ ss (a .ranked .now) _ _ _ _ _ _ _ _ ch _ _ _ _ at _ first waits _ next _ _ _ (c .before .before .before .before .before .before .before .before .before .visit .ensures) (omega (arith, c .before .before .before .before .before .if2 .left)) _ (c .before .before .before .before .moved .ensures) in
+    rw (c .before .counted .ensures .0, c .before .counted .ensures .1)
+    (both-passed _ ss (a .ranked .now) _ _ _ _ _ _ _ _ ch (c .before .before .before .pass .result .count) _ _ _ _ _ on (c .before .before .before .pass .ensures))
 
 index-work-requires-2 : tie.Need-index-work-requires-2 Inv-loop μ-loop
 index-work-requires-2 c κs =
@@ -197,6 +239,9 @@ search-index-spec =
     same-length
     returns
     moved-requires
+    pass-requires
+    counted-requires
+    looks-again-requires
     loop-less
     loop-again
     index-work-requires-2
