@@ -9,8 +9,9 @@ use lib.ListN.{length, getD, drop}
 use lib.Dec.{eqb, ltb}
 use borrow.Author.Tests.{eqb-true, eqb-false, ltb-true, ltb-false}
 use Rattle.lists.specs.Filter.{filter, consIf}
-use Rattle.ledger.specs.Booking.{raisedAt, singleTargets}
-use Rattle.ledger.proofs.Raising.{times, length-raisedAt, raisedAt-times}
+use Rattle.lists.specs.Raised.{raisedAt}
+use Rattle.lists.proofs.Raised.{times, length-raisedAt, raisedAt-times}
+use Rattle.ledger.specs.Booking.{singleTargets}
 use Rattle.raising.specs.Targets.{targetsIn, runEnds, small, Targeted}
 use Rattle.raising.proofs.Choosing.{length-targets}
 use Rattle.raising.proofs.Adding.{small-at, at-small}

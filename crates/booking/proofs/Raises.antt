@@ -6,9 +6,10 @@ use mathlib.Core.List.{List}
 use Prim.Native.Nat.{ℕ, _≤_}
 use native.Mathlib.Omega.{arith}
 use lib.ListN.{length}
+use Rattle.lists.specs.Raised.{raisedAt}
 use Rattle.lists.proofs.Cases.{and-true}
-use Rattle.ledger.specs.Booking.{Counters, raisedAt, singleTargets, countersOf}
-use Rattle.ledger.proofs.Raising.{length-raisedAt}
+use Rattle.lists.proofs.Raised.{length-raisedAt}
+use Rattle.ledger.specs.Booking.{Counters, singleTargets, countersOf}
 use Rattle.raising.specs.Targets.{targetsIn, chosen, small, Raisable, Fittable}
 use Rattle.raising.proofs.Adding.{small-before}
 use Rattle.posting.specs.Posting.{severalRuns}

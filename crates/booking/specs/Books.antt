@@ -5,7 +5,8 @@ use mathlib.Core.List.{List, [], _∷_}
 use Prim.Native.Nat.{ℕ, _<_, _≤_}
 use lib.ListN.{length, drop}
 use lib.Dec.{eqb, ltb}
-use Rattle.ledger.specs.Booking.{Counters, Books, raisedAt, singleTargets, countersOf}
+use Rattle.lists.specs.Raised.{raisedAt}
+use Rattle.ledger.specs.Booking.{Counters, Books, singleTargets, countersOf}
 use Rattle.ledger.specs.declared.Ledger.{Ledger}
 use Rattle.raising.specs.Targets.{targetsIn, small, maxGroups, Targeted}
 use Rattle.posting.specs.declared.Posted.{Posted}

@@ -5,8 +5,8 @@ use mathlib.Core.List.{List, [], _∷_, _++_}
 use Prim.Native.Nat.{ℕ}
 use native.Mathlib.Omega.{arith}
 use lib.ListN.{length, length-set}
+use Rattle.lists.proofs.Raised.{length-raisedAt}
 use Rattle.ledger.specs.Booking.{Booked, Books, targetsOf, singleTargets, multiTargets, bookedOne, bookedAll}
-use Rattle.ledger.proofs.Raising.{length-raisedAt}
 
 -- the first reads, then the others
 pub booked-append : (ranked : List ℕ) (bs ds : List Booked) (books : Books) → bookedAll ranked (bs ++ ds) books ≡ bookedAll ranked ds (bookedAll ranked bs books)

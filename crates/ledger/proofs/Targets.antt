@@ -14,10 +14,10 @@ use Rattle.lists.specs.Member.{_∈_, Distinct}
 use Rattle.lists.proofs.Cases.{by-test, same-test}
 use Rattle.lists.proofs.Member.{getD-∈, map-∈}
 use Rattle.lists.proofs.Filter.{length-filter}
+use Rattle.lists.proofs.Raised.{times}
 use Rattle.places.specs.Place.{Place}
 use Rattle.ledger.specs.Booking.{Booked, targetsOf, isIn, distinct, singleTargets, multiTargets}
 use Rattle.ledger.specs.Counting.{groupsOn, singlesOn, multiOn}
-use Rattle.ledger.proofs.Raising.{times}
 
 -- ---- distinct numbers
 

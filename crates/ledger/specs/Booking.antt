@@ -1,10 +1,11 @@
 -- What an audit keeps of its reads, and how one is booked (REFERENCE.md, "Booking").
 use mathlib.Core.Bool.{Bool, false, not, cond, _||_}
 use mathlib.Core.List.{List, [], _∷_, _++_, map}
-use Prim.Native.Nat.{ℕ, suc, _+_, _*_}
-use lib.ListN.{length, getD, set, replicate}
+use Prim.Native.Nat.{ℕ, _+_, _*_}
+use lib.ListN.{length, getD, replicate}
 use lib.Dec.{eqb, leb, ltb}
 use Rattle.lists.specs.Filter.{consIf, every}
+use Rattle.lists.specs.Raised.{raised, raisedAt}
 use Rattle.promises.specs.Slice.{Slice, old, new}
 use Rattle.places.specs.Place.{Place}
 use Rattle.ledger.specs.declared.Ledger.{Ledger}
@@ -45,17 +46,6 @@ emptyLedger = record { table = replicate 18 0; reads = replicate 3 0; placements
 -- for n targets
 abbrev pub emptyCounters : ℕ → Counters
 emptyCounters n = record { placements = replicate n 0; singles = replicate n 0; multi = replicate n 0 }
-
--- ---- numbers raised
-
--- numbers with the one at a place raised by one
-abbrev pub raised : ℕ → List ℕ → List ℕ
-raised at ns = set ns at (suc (getD ns at 0))
-
--- raised at each of some places in turn
-abbrev pub raisedAt : List ℕ → List ℕ → List ℕ
-raisedAt [] ns = ns
-raisedAt (x ∷ xs) ns = raisedAt xs (raised x ns)
 
 -- ---- the targets of a read
 

@@ -17,3 +17,4 @@ pub mod Places
 pub mod Cut
 pub mod Runs
 pub mod Tails
+pub mod Raised

@@ -79,7 +79,7 @@ module _ {A : Type 0} (less : A → A → Bool) (o : StrictOrder less) (p : A �
     pub part-stopped : (n : ℕ) → length (stopped p cs n) ≤ length (stopped p xs n)
     part-stopped n = thinned-stopped (part-thinned xs cs a b within holds) n
 
--- an ascending part that is not shorter is the whole
+-- an ascending part is no longer than the whole, and one that is not shorter is the whole
 module _ {A : Type 0} (less : A → A → Bool) (o : StrictOrder less) where
   shorter : {cs xs : List A} → Thinned (λ (z : A). false) cs xs → length cs ≤ length xs
   shorter done = omega arith
@@ -91,5 +91,12 @@ module _ {A : Type 0} (less : A → A → Bool) (o : StrictOrder less) where
   none-left (leave e t) h = absurd (omega (arith, shorter t))
   none-left (take {x = x} t) h = ap (λ (l : List A). x ∷ l) (none-left t (omega arith))
 
-  pub part-whole : (xs cs : List A) → Ascending less cs → Ascending less xs → ((z : A) → z ∈ cs → z ∈ xs) → length xs ≤ length cs → cs ≡ xs
-  part-whole xs cs a b within long = none-left (part-thinned less o (λ z. false) xs cs a b within (λ z m e. clash e refl)) long
+  module _ (xs cs : List A) (a : Ascending less cs) (b : Ascending less xs) (within : (z : A) → z ∈ cs → z ∈ xs) where
+    thinned : Thinned (λ (z : A). false) cs xs
+    thinned = part-thinned less o (λ z. false) xs cs a b within (λ z m e. clash e refl)
+
+    pub part-shorter : length cs ≤ length xs
+    part-shorter = shorter thinned
+
+    pub part-whole : length xs ≤ length cs → cs ≡ xs
+    part-whole long = none-left thinned long

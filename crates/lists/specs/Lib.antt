@@ -7,3 +7,4 @@ pub mod Limit
 pub mod Cut
 pub mod Same
 pub mod Numbers
+pub mod Raised

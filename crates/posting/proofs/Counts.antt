@@ -8,10 +8,11 @@ use native.Mathlib.Omega.{arith}
 use lib.ListN.{length, getD, drop}
 use lib.Dec.{leb, eqb}
 use borrow.Author.Tests.{eqb-true, eqb-false, leb-true, le-leb, not-true, not-false}
+use Rattle.lists.specs.Raised.{raised}
 use Rattle.lists.proofs.Cases.{same-test}
 use Rattle.lists.proofs.Every.{every-fails, every-passes, every-end}
-use Rattle.ledger.specs.Booking.{raised, maxCounter}
-use Rattle.ledger.proofs.Raising.{length-raised, raised-here, raised-elsewhere}
+use Rattle.lists.proofs.Raised.{length-raised, raised-here, raised-elsewhere}
+use Rattle.ledger.specs.Booking.{maxCounter}
 use Rattle.raising.specs.Targets.{raisedIf, small}
 
 -- one count has 64 bits

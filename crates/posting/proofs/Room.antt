@@ -8,10 +8,11 @@ use native.Mathlib.Omega.{arith}
 use lib.ListN.{length, getD, set}
 use lib.Dec.{eqb}
 use borrow.Author.Tests.{eq-eqb, ne-eqb, lt-ltb, le-ltb, leb-true, le-leb, lt-leb}
+use Rattle.lists.specs.Raised.{raised}
 use Rattle.lists.proofs.Cases.{and-true, clash, same-test}
-use Rattle.ledger.specs.Booking.{raised, cell, singleTargets, maxCounter}
+use Rattle.lists.proofs.Raised.{length-raised, raised-here}
+use Rattle.ledger.specs.Booking.{cell, singleTargets, maxCounter}
 use Rattle.ledger.specs.declared.Ledger.{Ledger}
-use Rattle.ledger.proofs.Raising.{length-raised, raised-here}
 use Rattle.raising.specs.Targets.{targetsIn, runEnds, small}
 use Rattle.raising.proofs.Choosing.{length-targets}
 use Rattle.raising.proofs.Adding.{small-at, small-before}

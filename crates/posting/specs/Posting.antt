@@ -5,7 +5,8 @@ use mathlib.Core.List.{List, [], _∷_}
 use Prim.Native.Nat.{ℕ, _+_}
 use lib.ListN.{length}
 use lib.Dec.{eqb, ltb}
-use Rattle.ledger.specs.Booking.{raised, cell, singleTargets}
+use Rattle.lists.specs.Raised.{raised}
+use Rattle.ledger.specs.Booking.{cell, singleTargets}
 use Rattle.ledger.specs.declared.Ledger.{Ledger}
 use Rattle.raising.specs.Targets.{runEnds, small}
 use Rattle.posting.specs.declared.Added.{Added}

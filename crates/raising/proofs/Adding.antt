@@ -11,11 +11,12 @@ use lib.Seq.{ext-getD}
 use lib.Dec.{leb, eqb}
 use borrow.Author.Tests.{leb-true, le-leb, lt-leb}
 use Rattle.lists.specs.Filter.{consIf}
+use Rattle.lists.specs.Raised.{raisedAt}
 use Rattle.lists.proofs.Every.{every-at, every-fails, every-passes, every-end, ∈-every}
 use Rattle.lists.proofs.Filter.{length-filter}
 use Rattle.lists.proofs.Member.{∈-getD}
-use Rattle.ledger.specs.Booking.{raised, raisedAt, maxCounter}
-use Rattle.ledger.proofs.Raising.{times, length-raised, length-raisedAt, raisedAt-times}
+use Rattle.lists.proofs.Raised.{times, length-raised, length-raisedAt, raisedAt-times}
+use Rattle.ledger.specs.Booking.{maxCounter}
 use Rattle.raising.specs.Targets.{targetsIn, chosen, countsAt, raisedIf, sums, small, Raisable, RaisableAt, maxGroups}
 use Rattle.raising.proofs.Choosing.{length-targets, targets-at, chosen-end, chosen-step, chosen-names, chosen-fewer}
 

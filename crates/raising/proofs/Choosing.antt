@@ -11,7 +11,7 @@ use lib.Seq.{drop-cons, getD-drop}
 use lib.Dec.{eqb, eqb·suc-suc}
 use borrow.Author.Tests.{eq-eqb, ne-eqb, eqb-true}
 use Rattle.lists.specs.Filter.{consIf}
-use Rattle.ledger.proofs.Raising.{times}
+use Rattle.lists.proofs.Raised.{times}
 use Rattle.raising.specs.Targets.{targetsIn, runEnds, chosen, countsAt}
 
 -- ---- the targets in entries

@@ -9,10 +9,11 @@ use lib.ListN.{length, getD, drop}
 use lib.Dec.{leb, eqb}
 use borrow.Author.Tests.{leb-true, le-leb, lt-leb, eqb-true}
 use Rattle.lists.specs.Filter.{consIf, every}
+use Rattle.lists.specs.Raised.{raisedAt}
 use Rattle.lists.proofs.Cases.{and-true}
 use Rattle.lists.proofs.Every.{every-fails, every-passes, every-end}
-use Rattle.ledger.specs.Booking.{raisedAt, maxCounter}
-use Rattle.ledger.proofs.Raising.{times, length-raisedAt}
+use Rattle.lists.proofs.Raised.{times, length-raisedAt}
+use Rattle.ledger.specs.Booking.{maxCounter}
 use Rattle.raising.specs.Targets.{runEnds, chosen, small, roomAt}
 use Rattle.raising.proofs.Choosing.{chosen-fewer}
 use Rattle.raising.proofs.Adding.{at-small, times-fewer, marks-at}

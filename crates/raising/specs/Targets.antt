@@ -6,7 +6,8 @@ use Prim.Native.Nat.{ℕ, zero, suc, _+_, _*_, _≤_, _<_}
 use lib.ListN.{length, getD, drop}
 use lib.Dec.{eqb, leb}
 use Rattle.lists.specs.Filter.{consIf, every}
-use Rattle.ledger.specs.Booking.{raised, raisedAt, maxCounter}
+use Rattle.lists.specs.Raised.{raised, raisedAt}
+use Rattle.ledger.specs.Booking.{maxCounter}
 
 -- the targets of the first n entries
 abbrev pub targetsIn : ℕ → List ℕ → List ℕ

@@ -2,8 +2,8 @@
 ghost use mathlib.Core.Path.{_≡_};
 ghost use Prim.Native.Nat.{_*_, _≤_, _<_};
 ghost use lib.ListN.{length, getD};
+ghost use Rattle.lists.specs.Raised.{raisedAt};
 ghost use Rattle.promises.specs.Slice.{old, new};
-ghost use Rattle.ledger.specs.Booking.{raisedAt};
 ghost use Rattle.raising.specs.Targets.{targetsIn, runEnds, countsAt, raisedIf, chosen, sums, small, roomAt, Targeted, RaisableAt, Raisable, Fittable};
 use ledger::MAX_COUNTER;
 

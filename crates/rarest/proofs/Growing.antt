@@ -1,31 +1,29 @@
 -- A key has no fewer postings than another one each of whose postings goes on to it.
 -- Assumes nothing.
 use mathlib.Core.Path.{_≡_, refl, sym, ap, subst₂, _∙_}
-use mathlib.Core.Bool.{Bool, true, false, _&&_}
+use mathlib.Core.Bool.{true, _&&_}
 use mathlib.Core.Logic.{inl, inr}
 use mathlib.Core.List.{List, [], _∷_, map}
-use Prim.Native.Nat.{ℕ, suc, _+_, _-_, _≤_, _<_}
+use Prim.Native.Nat.{ℕ, suc, _+_, _≤_, _<_}
 use native.Mathlib.Omega.{arith}
 use lib.ListN.{length, getD, length-map}
 use lib.Dec.{eqb, ltb}
 use borrow.Author.Tests.{eqb-true, eq-eqb, ltb-true, ltb-false, lt-ltb}
-use Rattle.lists.specs.Filter.{filter}
 use Rattle.lists.specs.Cut.{window}
 use Rattle.lists.specs.Member.{_∈_}
 use Rattle.lists.specs.Order.{Ascending}
-use Rattle.lists.specs.Limit.{stopped}
-use Rattle.lists.proofs.Cases.{by-test, clash, and-true}
+use Rattle.lists.proofs.Cases.{by-test, and-true}
 use Rattle.lists.proofs.Member.{map-∈, ∈-getD}
 use Rattle.lists.proofs.Filter.{∈-filter, filter-∈}
 use Rattle.lists.proofs.Places.{getD-map}
 use Rattle.lists.proofs.Order.{ascending-filter, ascending-map}
-use Rattle.lists.proofs.Part.{part-stopped}
+use Rattle.lists.proofs.Part.{part-shorter}
 use Rattle.lists.proofs.Triple.{Before, before-test, test-before}
 use Rattle.bases.specs.Base.{codeOf}
 use Rattle.columns.specs.Posting.{Posting, posting, triple, earlier}
 use Rattle.columns.proofs.Order.{earlier-order}
 use Rattle.seeds.specs.Key.{keyOf}
-use Rattle.seeds.specs.Seeds.{keysOf, ranksOf, positionsOf}
+use Rattle.seeds.specs.Seeds.{keysOf}
 use Rattle.seeds.specs.Window.{windowOf, starts}
 use Rattle.lookup.specs.Range.{RangeOf}
 use Rattle.index.specs.Index.{indexOf, isSeed, hits, Indexed}
@@ -35,19 +33,13 @@ use Rattle.places.specs.Agreeing.{agreeing}
 use Rattle.places.proofs.Alike.{agree-more, agree-part, agree-key, key-agree}
 use Rattle.rarest.specs.Shown.{GoesOn, Shown}
 
--- a search that finds nothing goes through all
-stopped-none : {A : Type 0} (xs : List A) (n : ℕ) → stopped (λ (z : A). false) xs n ≡ xs
-stopped-none [] n = refl
-stopped-none (x ∷ xs) n = ap (λ l. x ∷ l) (stopped-none xs n)
-
 module _ (q : ℕ) (ss : List (List ℕ)) (k k′ e : ℕ) where
   -- a posting e bases on, with the other key
   abbrev pub gone : Posting → Posting
   gone p = posting k′ (p .rank) (p .position + e)
 
   pub hits-grow : ((p : Posting) → p ∈ hits k (indexOf q ss) → isSeed q ss (gone p) ≡ true) → length (hits k (indexOf q ss)) ≤ length (hits k′ (indexOf q ss))
-  hits-grow seeds =
-      omega (arith, length-map (hits k (indexOf q ss)) gone, fewer, ap length (stopped-none (map gone (hits k (indexOf q ss))) 0), ap length (stopped-none (hits k′ (indexOf q ss)) 0))
+  hits-grow seeds = omega (arith, length-map (hits k (indexOf q ss)) gone, fewer)
     where
       at : (p : Posting) → p ∈ hits k (indexOf q ss) → p .key ≡ k
       at p m = eqb-true (p .key) k (filter-∈ (λ (x : Posting). eqb (x .key) k) p (indexOf q ss) m .1)
@@ -67,10 +59,10 @@ module _ (q : ℕ) (ss : List (List ℕ)) (k k′ e : ℕ) where
           let r = map-∈ gone z (hits k (indexOf q ss)) m in
           rw (r .2) (∈-filter (λ (x : Posting). eqb (x .key) k′) (gone (r .0)) (indexOf q ss) (seed-∈-index q ss (gone (r .0)) (seeds (r .0) (r .1))) (eq-eqb k′ k′ refl))
 
-      fewer : length (stopped (λ (z : Posting). false) (map gone (hits k (indexOf q ss))) 0) ≤ length (stopped (λ (z : Posting). false) (hits k′ (indexOf q ss)) 0)
+      fewer : length (map gone (hits k (indexOf q ss))) ≤ length (hits k′ (indexOf q ss))
       fewer =
-          part-stopped earlier earlier-order (λ z. false) (hits k′ (indexOf q ss)) (map gone (hits k (indexOf q ss))) up
-          (ascending-filter earlier (λ (x : Posting). eqb (x .key) k′) (indexOf q ss) (index-ascending q ss)) within (λ z m t. clash t refl) 0
+          part-shorter earlier earlier-order (hits k′ (indexOf q ss)) (map gone (hits k (indexOf q ss))) up
+          (ascending-filter earlier (λ (x : Posting). eqb (x .key) k′) (indexOf q ss) (index-ascending q ss)) within
 
 -- ---- offsets of a read
 

@@ -7,11 +7,12 @@ use Prim.Native.Nat.{ℕ, _+_, _*_, _≤_}
 use lib.ListN.{length, drop}
 use lib.Dec.{eqb, ltb}
 use Rattle.lists.specs.Cut.{window}
+use Rattle.lists.specs.Raised.{raised, raisedAt}
 use Rattle.lists.proofs.Every.{every-append}
 use Rattle.places.specs.Place.{Place}
 use Rattle.scan.specs.Entries.{entriesOf}
 use Rattle.seeds.specs.Seeds.{placed}
-use Rattle.ledger.specs.Booking.{raised, raisedAt, cell, Booked, Books, targetsOf, singleTargets, multiTargets, ledgerWith, countersWith, bookedOne, bookedAll, countable}
+use Rattle.ledger.specs.Booking.{cell, Booked, Books, targetsOf, singleTargets, multiTargets, ledgerWith, countersWith, bookedOne, bookedAll, countable}
 use Rattle.raising.specs.Targets.{targetsIn}
 use Rattle.posting.specs.Posting.{severalRuns}
 use Rattle.booking.specs.Books.{Posting, postingTargets, postedOne, postedAll, booksSmall}
