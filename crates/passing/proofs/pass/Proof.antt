@@ -54,8 +54,7 @@ pass-side-requires : tie.Need-pass-side-requires
 pass-side-requires c κs =
     let s = c .before .before .before .before .before .before .before .before .before .before .before .before .before .before .before in let a = s .args in
     let waits = sym (c .before .before .before .before .before .before .before .waits .ensures) ∙ not-false _ (c .before .before .before .before .before .before .if2 .left) in
-    let e : c .before .before .side .result ≡ firstOf (a .sides) = c .before .before .side .ensures ∙ ap (λ b. cond b (a .sides .plus) (a .sides .minus)) (c .before .before .before .plus-first .ensures) in
-    (
+    let e : c .before .before .side .result ≡ firstOf (a .sides) = c .before .before .side .ensures ∙ ap (λ b. cond b (a .sides .plus) (a .sides .minus)) (c .before .before .before .plus-first .ensures) in (
       s .pre .0,
       record {
         waits = rw e (first-waits (a .sides) waits);

@@ -32,8 +32,7 @@ loop-holds c =
 is-followed-requires : tie.Need-is-followed-requires Inv-loop μ-loop
 is-followed-requires c κs =
     let s = c .before .before .before .before .before .before .before .before .before in let a = s .args in
-    let e = c .before .before .ranked-sequence .ensures in
-    (
+    let e = c .before .before .ranked-sequence .ensures in (
       record {
         fits = omega (arith, c .loop .inv .inside, ap length e);
         capitals = fit-capitals (a .bases .now) (a .ends .now) (a .ranked .now) (a .read .now) (s .pre .0) (placeOf (a .first)) (s .pre .1 .inside) _ e;

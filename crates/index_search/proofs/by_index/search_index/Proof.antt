@@ -132,8 +132,7 @@ pass-requires c κs =
     let first = c .before .before .before .before .before .before .before .before .before .plus-first .ensures in
     let waits = sym (c .before .before .before .before .before .before .before .before .before .before .before .waits .ensures) ∙ c .before .before .before .before .before .before .before .before .before .before .if1 .taken in
     let next = c .before .before .before .before .before .before .before .before .side .ensures in
-    let on = both-more _ ss (a .ranked .now) _ _ _ _ _ _ _ _ ch _ _ _ _ at _ first waits _ next _ _ _ (c .before .before .before .before .before .visit .ensures) (omega (arith, c .before .if2 .left)) _ (c .moved .ensures) in
-    (
+    let on = both-more _ ss (a .ranked .now) _ _ _ _ _ _ _ _ ch _ _ _ _ at _ first waits _ next _ _ _ (c .before .before .before .before .before .visit .ensures) (omega (arith, c .before .if2 .left)) _ (c .moved .ensures) in (
       z .pre .0 .searchable,
       record {
         inside = both-fits _ ss (a .ranked .now) _ _ _ _ _ _ _ _ ch _ _ _ _ at _ first waits _ next;
