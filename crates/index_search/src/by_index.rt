@@ -57,7 +57,8 @@ fn counted(tally: Tally, n: usize) -> Tally
     }
 }
 
-// The candidates of both strands, the smaller one compared first, up to the first match past the bound.
+// The candidates of both strands, the smaller one compared first, up to the first match past the bound. The first lookup on each
+// strand begins near a place that is told.
 pub fn search_index(
     entries: &mut [u64],
     bases: &[u8],
@@ -69,13 +70,37 @@ pub fn search_index(
     q: usize,
     read: &[u8],
     bound: usize,
+    plus_near: usize,
+    minus_near: usize,
 ) -> MappingWork
     requires { ⌜ IndexSearchable q (now bases) (now ends) (now ranked) (now keys) (now ranks) (now positions) (now read) ⌝ }
     requires { ⌜ (q ≤ length (now read)) × (4 * bound ≤ length (now entries)) ⌝ }
     ensures { λ r. ⌜ Found (byIndex q) (lentSequences bases ends ranked) (old ranked) (old read) bound r (old entries) (new entries) ⌝ }
 {
-    let plus = rarest_seed(bases, ends, ranked, keys, ranks, positions, q, read, 0);
-    let minus = rarest_seed(bases, ends, ranked, keys, ranks, positions, q, read, 1);
+    let plus = rarest_seed(
+        bases,
+        ends,
+        ranked,
+        keys,
+        ranks,
+        positions,
+        q,
+        read,
+        0,
+        plus_near,
+    );
+    let minus = rarest_seed(
+        bases,
+        ends,
+        ranked,
+        keys,
+        ranks,
+        positions,
+        q,
+        read,
+        1,
+        minus_near,
+    );
     let forward = cursor_over(0, plus);
     let backward = cursor_over(1, minus);
     let mut sides = first_candidates(

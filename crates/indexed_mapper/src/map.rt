@@ -12,6 +12,7 @@ use answers::bounds::limit_right;
 use catalogue::bounds::proper_sequence;
 use catalogue::ranks::Ranking;
 use index::test::is_index;
+use lookup::lookup::NOWHERE;
 use planning::rank_checked;
 use search::search;
 
@@ -65,6 +66,8 @@ pub fn map_read(
         q,
         read,
         limit,
+        NOWHERE,
+        NOWHERE,
     )
 }
 

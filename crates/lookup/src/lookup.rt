@@ -6,6 +6,9 @@ ghost use Rattle.promises.specs.Slice.{old};
 ghost use Rattle.lookup.specs.Range.{Rising, Within, SearchFrom, BoundAt, RangeOf};
 use crate::read::posting_key;
 
+// No place: what is told of a key that nothing is known of.
+pub const NOWHERE: usize = 18446744073709551615;
+
 // The places from start up to end.
 pub struct Range {
     pub start: usize,
@@ -13,7 +16,7 @@ pub struct Range {
 }
 
 // A place from low up to high: `by` and a step behind low, or the last one; the middle once nine steps were made.
-fn probe_after(low: usize, high: usize, by: u64, step: u64) -> usize
+pub(crate) fn probe_after(low: usize, high: usize, by: u64, step: u64) -> usize
     ensures { λ r. ⌜ Within low high r ⌝ }
 {
     if high <= low {
@@ -33,7 +36,7 @@ fn probe_after(low: usize, high: usize, by: u64, step: u64) -> usize
 }
 
 // The same in front of high.
-fn probe_before(low: usize, high: usize, by: u64, step: u64) -> usize
+pub(crate) fn probe_before(low: usize, high: usize, by: u64, step: u64) -> usize
     ensures { λ r. ⌜ Within low high r ⌝ }
 {
     if high <= low {
@@ -61,7 +64,7 @@ fn longer(step: u64) -> u64 {
 }
 
 // How many keys are thought to stand between two.
-fn keys_between(a: u64, b: u64, gap: u64) -> u64
+pub(crate) fn keys_between(a: u64, b: u64, gap: u64) -> u64
     requires { ⌜ 1 ≤ gap ⌝ }
 {
     if a <= b {
@@ -96,7 +99,7 @@ fn lower_bound(keys: &[u64], bound: u64, from: usize, first: usize, gap: u64) ->
 }
 
 // How far apart keys are on the whole, at least 1.
-fn typical_gap(keys: &[u64]) -> u64
+pub(crate) fn typical_gap(keys: &[u64]) -> u64
     requires { ⌜ Rising (now keys) ⌝ }
     requires { ⌜ 0 < length (now keys) ⌝ }
     ensures { λ r. ⌜ 1 ≤ r ⌝ }
@@ -111,7 +114,7 @@ fn typical_gap(keys: &[u64]) -> u64
 }
 
 // Where a key is expected.
-fn expected_place(keys: &[u64], key: u64, gap: u64) -> usize
+pub(crate) fn expected_place(keys: &[u64], key: u64, gap: u64) -> usize
     requires { ⌜ (0 < length (now keys)) × (1 ≤ gap) ⌝ }
     ensures { λ r. ⌜ r < length (old keys) ⌝ }
 {
@@ -127,8 +130,19 @@ fn expected_place(keys: &[u64], key: u64, gap: u64) -> usize
     place as usize
 }
 
-// Where the postings of a key stand.
-pub fn posting_range(keys: &[u64], key: u64) -> Range
+// Where a search begins: near a place that is told, if there is such a place, and else where the key is expected.
+fn first_probe(keys: &[u64], key: u64, gap: u64, near: usize) -> usize
+    requires { ⌜ (0 < length (now keys)) × (1 ≤ gap) ⌝ }
+    ensures { λ r. ⌜ r < length (old keys) ⌝ }
+{
+    if near < keys.len() {
+        return near;
+    }
+    expected_place(keys, key, gap)
+}
+
+// Where the postings of a key stand; the search for them begins near a place that is told.
+pub fn posting_range(keys: &[u64], key: u64, near: usize) -> Range
     requires { ⌜ Rising (now keys) ⌝ }
     ensures { λ r. ⌜ RangeOf (old keys) key (r .start) (r .end) ⌝ }
 {
@@ -136,8 +150,8 @@ pub fn posting_range(keys: &[u64], key: u64) -> Range
         return Range { start: 0, end: 0 };
     }
     let gap = typical_gap(keys);
-    let expected = expected_place(keys, key, gap);
-    let start = lower_bound(keys, key, 0, expected, gap);
+    let first = first_probe(keys, key, gap, near);
+    let start = lower_bound(keys, key, 0, first, gap);
     if key == u64::MAX {
         return Range {
             start,

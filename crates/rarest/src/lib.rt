@@ -8,6 +8,7 @@ ghost use Rattle.candidates.specs.Search.{Rarest};
 ghost use Rattle.rarest.specs.Shown.{ChoiceLent};
 ghost use Rattle.rarest.specs.Choosing.{Better, Counted};
 use bases::base::table;
+use lookup::lookup::NOWHERE;
 use lookup::lookup::Range;
 use lookup::lookup::posting_range;
 use places::looking::looks_again;
@@ -62,7 +63,7 @@ impl SeedChoice {
 }
 
 // Looks the seeds of a read up, offset by offset, and stops after a lookup that finds none. Offsets that are known to have no fewer
-// postings are counted, and not looked up.
+// postings are counted, and not looked up. The first lookup begins near a place that is told.
 pub fn rarest_seed(
     bases: &[u8],
     ends: &[usize],
@@ -73,13 +74,14 @@ pub fn rarest_seed(
     q: usize,
     read: &[u8],
     strand: u64,
+    near: usize,
 ) -> SeedChoice
     requires { ⌜ ChoiceLent q (now bases) (now ends) (now ranked) (now keys) (now ranks) (now positions) (now read) ⌝ }
     ensures { λ r. ⌜ Rarest (old keys) q (oriented strand (old read)) (r .offset) (r .start) (r .end) (r .lookups) ⌝ }
 {
     let table = table();
     let n = read.len() - q + 1;
-    let mut range = posting_range(keys, key_at(&table, read, strand, q, 0));
+    let mut range = posting_range(keys, key_at(&table, read, strand, q, 0), near);
     let mut best = SeedChoice {
         offset: 0,
         start: range.start,
@@ -113,7 +115,7 @@ pub fn rarest_seed(
         if n <= o {
             return best;
         }
-        range = posting_range(keys, key_at(&table, read, strand, q, o));
+        range = posting_range(keys, key_at(&table, read, strand, q, o), NOWHERE);
         best = best.or(o, range);
     }
     best

@@ -46,6 +46,8 @@ pub fn search(
     q: usize,
     read: &[u8],
     limit: u64,
+    plus_near: usize,
+    minus_near: usize,
 ) -> MapAnswer
     requires { ⌜ IndexSearchable q (now bases) (now ends) (now ranked) (now keys) (now ranks) (now positions) (now read) ⌝ }
     ensures { λ r. ⌜ SearchAnswered (byIndex q) (lentSequences bases ends ranked) (old ranked) (old read) limit r (old entries) (new entries) ⌝ }
@@ -66,6 +68,8 @@ pub fn search(
         q,
         read,
         bound,
+        plus_near,
+        minus_near,
     );
     conclude(entries, limit, bound, work)
 }
@@ -84,6 +88,8 @@ pub fn search_part(
     q: usize,
     read: &[u8],
     limit: u64,
+    plus_near: usize,
+    minus_near: usize,
 ) -> MapAnswer
     requires { ⌜ IndexSearchable q (now bases) (now ends) (now ranked) (now keys) (now ranks) (now positions) (now read) ⌝ }
     requires { ⌜ from + width ≤ length (now entries) ⌝ }
@@ -101,5 +107,7 @@ pub fn search_part(
         q,
         read,
         limit,
+        plus_near,
+        minus_near,
     )
 }

@@ -9,12 +9,15 @@ ghost use Rattle.index.specs.Index.{lentSequences};
 ghost use Rattle.index_search.specs.Steps.{Mappable};
 ghost use Rattle.shares.specs.Shares.{ShareMapped, RankedMapped};
 use answers::answer::MapAnswer;
+use approach::approach;
 use indexed_mapper::map::check_read;
 use names::sequences::sequence_at;
 use rows::write_row;
 use search::search_part;
 
-// Maps a read into `width` numbers from a place on.
+pub mod approach;
+
+// Maps a read into `width` numbers from a place on; the first lookups begin near places that are told.
 fn map_share(
     entries: &mut [u64],
     from: usize,
@@ -28,6 +31,8 @@ fn map_share(
     q: usize,
     read: &[u8],
     limit: u64,
+    plus_near: usize,
+    minus_near: usize,
 ) -> MapAnswer
     requires { ⌜ Mappable q (now bases) (now ends) (now ranked) (now keys) (now ranks) (now positions) × (from + width ≤ length (now entries)) ⌝ }
     ensures { λ r. ⌜ ShareMapped q (lentSequences bases ends ranked) (old ranked) (old read) limit from width r (old entries) (new entries) ⌝ }
@@ -49,6 +54,8 @@ fn map_share(
         q,
         read,
         limit,
+        plus_near,
+        minus_near,
     )
 }
 
@@ -72,8 +79,11 @@ pub fn map_shares(
     requires { ⌜ (length (now rows) ≡ 8 * length (now «read_ends»)) × (4 * share * length (now «read_ends») ≤ length (now entries)) ⌝ }
     ensures { λ _. ⌜ RankedMapped q (lentSequences bases ends ranked) (old ranked) limit (old reads) (old «read_ends») share (new rows) (old entries) (new entries) ⌝ }
 {
+    let mut plus = [0usize; 32];
+    let mut minus = [0usize; 32];
     let mut i = 0;
     while i < read_ends.len() {
+        approach(&mut plus, &mut minus, keys, q, reads, read_ends, i);
         let width = 4 * share;
         let read = sequence_at(reads, read_ends, i);
         let answer = map_share(
@@ -89,6 +99,8 @@ pub fn map_shares(
             q,
             read,
             limit,
+            plus[i % 32],
+            minus[i % 32],
         );
         write_row(rows, 8 * i, answer);
         i += 1;

@@ -14,6 +14,7 @@ use answers::answer::Mapping;
 use answers::answer::ReadState;
 use audit_rules::settings::Settings;
 use index_search::work::work_of;
+use lookup::lookup::NOWHERE;
 use scan::visit::Tally;
 use search::search_every_start;
 use search::search_part;
@@ -83,6 +84,8 @@ pub fn observe_read(
             q,
             read,
             settings.limit,
+            NOWHERE,
+            NOWHERE,
         );
     }
     let end = from + width;

@@ -12,10 +12,10 @@ use Rattle.rarest.proofs.rarest_seed.Statement.{statement}
 use Rattle.rarest.proofs.rarest_seed.Tie as tie
 
 abbrev Inv-loop : tie.InvT-loop
-Inv-loop bases ends ranked keys ranks positions q read strand table n range₀ best₀ look₀ o₀ range best look o = Choosing keys q (oriented strand read) n o (range .start) (range .end) (best .offset) (best .start) (best .end) (best .lookups)
+Inv-loop bases ends ranked keys ranks positions q read strand near table n range₀ best₀ look₀ o₀ range best look o = Choosing keys q (oriented strand read) n o (range .start) (range .end) (best .offset) (best .start) (best .end) (best .lookups)
 
 abbrev μ-loop : tie.MeasureT-loop
-μ-loop bases ends ranked keys ranks positions q read strand table n range₀ best₀ look₀ o₀ range best look o = n - o
+μ-loop bases ends ranked keys ranks positions q read strand near table n range₀ best₀ look₀ o₀ range best look o = n - o
 
 table-requires : tie.Need-table-requires Inv-loop μ-loop
 table-requires c κs = search needs

@@ -27,7 +27,7 @@ bound-of-requires : tie.Need-bound-of-requires
 bound-of-requires c κs = search needs
 
 search-index-requires : tie.Need-search-index-requires
-search-index-requires c κs = search needs
+search-index-requires c κs = (c .before .before .before .before .before .before .before .before .before .before .before .before .before .before .before .pre, (omega (arith, c .before .before .before .before .before .before .if1 .left), omega (arith, c .before .bound-of .ensures)))
 
 conclude-requires : tie.Need-conclude-requires
 conclude-requires c κs = search needs

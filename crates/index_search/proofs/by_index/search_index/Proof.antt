@@ -12,11 +12,11 @@ use Rattle.index_search.proofs.by_index.search_index.Statement.{stateme
 use Rattle.index_search.proofs.by_index.search_index.Tie as tie
 
 abbrev Inv-loop : tie.InvT-loop
-Inv-loop entries₀ bases ends ranked keys ranks positions q read bound plus minus sides₀ tally₀ look₀ entries sides tally look =
+Inv-loop entries₀ bases ends ranked keys ranks positions q read bound plus-near minus-near plus minus sides₀ tally₀ look₀ entries sides tally look =
     Both q (rankedSequences bases ends ranked) ranked read bound plus minus entries₀ sides (tally .comparisons) (tally .seen) entries
 
 abbrev μ-loop : tie.MeasureT-loop
-μ-loop entries₀ bases ends ranked keys ranks positions q read bound plus minus sides₀ tally₀ look₀ entries sides tally look =
+μ-loop entries₀ bases ends ranked keys ranks positions q read bound plus-near minus-near plus minus sides₀ tally₀ look₀ entries sides tally look =
     2 * maxStarts - tally .comparisons
 
 rarest-seed-requires : tie.Need-rarest-seed-requires Inv-loop μ-loop

@@ -12,15 +12,15 @@ returns c = let a = c .before .before .args in range-none (a .keys .now) (a .key
 typical-gap-requires : tie.Need-typical-gap-requires
 typical-gap-requires c κs = search needs
 
-expected-place-requires : tie.Need-expected-place-requires
-expected-place-requires c κs = search needs
+first-probe-requires : tie.Need-first-probe-requires
+first-probe-requires c κs = search needs
 
 lower-bound-requires : tie.Need-lower-bound-requires
 lower-bound-requires c κs =
     record {
       rising = c .before .before .before .before .pre;
       below = record { inside = omega arith; below = λ i h. absurd (omega arith) };
-      within = λ h. (omega arith, c .expected-place .ensures);
+      within = λ h. (omega arith, c .first-probe .ensures);
       apart = c .before .typical-gap .ensures;
     }
 
@@ -53,7 +53,7 @@ posting-range-spec =
     (tie.spec
     returns
     typical-gap-requires
-    expected-place-requires
+    first-probe-requires
     lower-bound-requires
     returns-2
     add-lower-bound
