@@ -11,6 +11,7 @@ use lib.Dec.{eqb, leb}
 use borrow.Author.Tests.{eq-eqb, not-true}
 use Rattle.lists.specs.Filter.{every}
 use Rattle.lists.specs.Member.{_∈_, Distinct}
+use Rattle.lists.specs.Sum.{sum}
 use Rattle.lists.proofs.Cases.{clash}
 use Rattle.lists.proofs.Every.{every-∈, every-append}
 use Rattle.lists.specs.Triple.{Triple}
@@ -20,7 +21,7 @@ use Rattle.catalogue.specs.Catalogue.{Catalogue, Target, Valid, targets, isMapp
 use Rattle.index.specs.Index.{mappedSequences}
 use Rattle.indexed_mapper.specs.Match.{rankOf}
 use Rattle.ledger.specs.Booking.{Booked, Counters, bookedAll, emptyLedger, emptyCounters, maxCounter, countable}
-use Rattle.ledger.specs.Balance.{sum, countOf, balanced}
+use Rattle.ledger.specs.Balance.{countOf, balanced}
 use Rattle.ledger.specs.Counting.{readsIn, readsOf, anyIndeterminate, placementsOn, singlesOn, multiOn, Bookable, Counts}
 use Rattle.ledger.proofs.Booking.{booked-lengths}
 use Rattle.ledger.proofs.Counting.{booked-counts}

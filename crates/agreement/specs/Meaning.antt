@@ -6,6 +6,7 @@ use Prim.Native.Nat.{ℕ, _+_, _*_, _<_}
 use lib.ListN.{length}
 use Rattle.lists.specs.Cut.{window}
 use Rattle.lists.specs.Member.{_∈_}
+use Rattle.lists.specs.Sum.{sum}
 use Rattle.lists.specs.Triple.{Triple}
 use Rattle.promises.specs.Refusal.{refused, accepted}
 use Rattle.catalogue.specs.Catalogue.{Catalogue, Target, targets, isMapped, suppliedPlaces}
@@ -14,7 +15,7 @@ use Rattle.scan.specs.Entries.{entriesOf, entryCount, cleared}
 use Rattle.answers.specs.Answer.{Row, row, stateOf}
 use Rattle.indexed_mapper.specs.Match.{Lists, rankOf}
 use Rattle.ledger.specs.Booking.{Booked, Counters}
-use Rattle.ledger.specs.Balance.{sum, countOf}
+use Rattle.ledger.specs.Balance.{countOf}
 use Rattle.ledger.specs.Counting.{Counts, readsIn, readsOf, anyIndeterminate, placementsOn, singlesOn, multiOn}
 use Rattle.audit_rules.specs.declared.settings.Settings.{Settings}
 use Rattle.audit_rules.specs.declared.sheet.Status.the-variants as statuses

@@ -11,10 +11,11 @@ use lib.Dec.{eqb, leb}
 use borrow.Author.Tests.{le-leb, eq-eqb, ne-eqb, eqb-true}
 use Rattle.lists.specs.Cut.{cut, endsWithin}
 use Rattle.lists.specs.Filter.{every}
+use Rattle.lists.specs.Sum.{sum}
 use Rattle.lists.proofs.Cut.{length-cut}
 use Rattle.lists.proofs.Cases.{same-test, and-true}
 use Rattle.ledger.specs.Booking.{maxCounter}
-use Rattle.ledger.specs.Balance.{sum, agree}
+use Rattle.ledger.specs.Balance.{agree}
 use Rattle.audit_codes.specs.Codes.{isRole, isMark}
 use Rattle.fragment_lists.specs.Lists.{FragmentLists, lengthsFit, listsFit}
 

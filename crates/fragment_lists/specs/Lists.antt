@@ -6,8 +6,8 @@ use lib.ListN.{length, getD}
 use lib.Dec.{eqb}
 use Rattle.lists.specs.Cut.{cut, endsWithin}
 use Rattle.lists.specs.Filter.{every}
+use Rattle.lists.specs.Sum.{sum}
 use Rattle.promises.specs.Slice.{Slice, old}
-use Rattle.ledger.specs.Balance.{sum}
 use Rattle.audit_rules.specs.Observing.{MateRead}
 use Rattle.audit_rules.specs.Fragment.{Fragment}
 use Rattle.audit_rules.specs.Calls.{mateOf}

@@ -10,25 +10,17 @@ use lib.ListN.{length, getD}
 use lib.Dec.{eqb, leb}
 use borrow.Author.Tests.{eq-eqb, ne-eqb, leb-true, le-leb}
 use Rattle.lists.specs.Member.{_∈_, Distinct}
+use Rattle.lists.specs.Sum.{sum}
 use Rattle.lists.proofs.Cases.{by-test}
 use Rattle.lists.proofs.Member.{∈-append-left, ∈-append-right, getD-∈}
 use Rattle.lists.proofs.Every.{every-∈, ∈-every}
+use Rattle.lists.proofs.Sum.{sum-same, sum-parts}
 use Rattle.ledger.specs.Booking.{Booked, Books, kept, maxCounter, countable}
-use Rattle.ledger.specs.Balance.{sum, agree, countOf, roleAgrees, countersAgree, balanced}
+use Rattle.ledger.specs.Balance.{agree, countOf, roleAgrees, countersAgree, balanced}
 use Rattle.ledger.specs.Counting.{readsIn, readsOf, Counts}
 use Rattle.ledger.proofs.Growing.{length-filter-append}
 
 -- ---- the reads of a role by state
-
--- numbers given alike have the same sum
-sum-same : (f g : ℕ → ℕ) (xs : List ℕ) → ((x : ℕ) → x ∈ xs → f x ≡ g x) → sum (map f xs) ≡ sum (map g xs)
-sum-same f g [] h = refl
-sum-same f g (x ∷ xs) h = omega (arith, h x (inl refl), sum-same f g xs (λ y m. h y (inr m)))
-
--- numbers given as two parts
-sum-parts : (f g h : ℕ → ℕ) (xs : List ℕ) → ((x : ℕ) → x ∈ xs → f x ≡ g x + h x) → sum (map f xs) ≡ sum (map g xs) + sum (map h xs)
-sum-parts f g h [] e = omega arith
-sum-parts f g h (x ∷ xs) e = omega (arith, e x (inl refl), sum-parts f g h xs (λ y m. e y (inr m)))
 
 module _ (role : ℕ) where
   -- a read is counted in its own state, by its role, and in no other

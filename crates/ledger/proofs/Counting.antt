@@ -6,9 +6,9 @@ use Prim.Native.Nat.{ℕ, zero, suc}
 use native.Mathlib.Omega.{arith}
 use lib.ListN.{length, getD, replicate, length-replicate}
 use Rattle.lists.specs.Member.{_∈_}
+use Rattle.lists.proofs.Sum.{sum-replicate}
 use Rattle.ledger.specs.Booking.{Booked, Books, emptyLedger, emptyCounters, bookedAll, cell}
 use Rattle.ledger.specs.Counting.{Bookable, Ranked, Counts}
-use Rattle.ledger.proofs.Raising.{sum-replicate}
 use Rattle.ledger.proofs.Growing.{Sized, Grown, booked-grown}
 
 -- nothing booked for n targets

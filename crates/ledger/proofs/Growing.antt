@@ -12,15 +12,16 @@ use borrow.Author.Tests.{eqb-true, eq-eqb}
 use Rattle.lists.specs.Filter.{filter, consIf}
 use Rattle.lists.specs.Member.{_∈_}
 use Rattle.lists.specs.Raised.{raised}
+use Rattle.lists.specs.Sum.{sum}
 use Rattle.lists.proofs.Cases.{by-test, clash, and-true}
 use Rattle.lists.proofs.Member.{getD-∈}
 use Rattle.lists.proofs.Filter.{filter-append}
 use Rattle.lists.proofs.Raised.{raised-here, raised-elsewhere, raisedAt-times, raisedAt-other}
+use Rattle.lists.proofs.Sum.{sum-raisedAt}
 use Rattle.places.specs.Place.{Place}
 use Rattle.ledger.specs.Booking.{Booked, Books, cell, targetsOf, singleTargets, multiTargets, bookedOne, bookedAll}
-use Rattle.ledger.specs.Balance.{sum, countOf}
+use Rattle.ledger.specs.Balance.{countOf}
 use Rattle.ledger.specs.Counting.{readsIn, readsOf, anyIndeterminate, groupsOn, allGroups, liesOn, placementsOn, singlesOn, multiOn, Bookable, Ranked}
-use Rattle.ledger.proofs.Raising.{sum-raisedAt}
 use Rattle.ledger.proofs.Targets.{targets-times, single-times, multi-times, targets-∈, single-∈, multi-∈}
 use Rattle.ledger.proofs.Booking.{one-lengths}
 

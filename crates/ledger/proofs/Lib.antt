@@ -1,4 +1,3 @@
-pub mod Raising
 pub mod Targets
 pub mod Booking
 pub mod Growing

@@ -1,17 +1,13 @@
 -- Whether the books agree with themselves (REFERENCE.md, "Finish").
 use mathlib.Core.Bool.{Bool, _&&_}
-use mathlib.Core.List.{List, [], _∷_, map}
-use Prim.Native.Nat.{ℕ, _+_}
+use mathlib.Core.List.{List, map}
+use Prim.Native.Nat.{ℕ}
 use lib.ListN.{getD}
 use lib.Dec.{eqb, leb}
 use Rattle.lists.specs.Filter.{every}
+use Rattle.lists.specs.Sum.{sum}
 use Rattle.ledger.specs.declared.Ledger.{Ledger}
 use Rattle.ledger.specs.Booking.{Books, cell, maxCounter}
-
--- the sum of numbers
-abbrev pub sum : List ℕ → ℕ
-sum [] = 0
-sum (n ∷ ns) = n + sum ns
 
 -- numbers whose sum has 64 bits and is the kept total
 abbrev pub agree : List ℕ → ℕ → Bool

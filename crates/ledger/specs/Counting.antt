@@ -7,9 +7,10 @@ use lib.ListN.{length, getD}
 use lib.Dec.{eqb, ltb}
 use Rattle.lists.specs.Filter.{filter, every}
 use Rattle.lists.specs.Member.{_∈_, Distinct}
+use Rattle.lists.specs.Sum.{sum}
 use Rattle.places.specs.Place.{Place}
 use Rattle.ledger.specs.Booking.{Booked, Books}
-use Rattle.ledger.specs.Balance.{sum, countOf}
+use Rattle.ledger.specs.Balance.{countOf}
 
 -- ---- reads
 

@@ -10,12 +10,12 @@ use native.Mathlib.Nat.{mul-zero, mul-suc, mul-le-mul-left}
 use lib.ListN.{length, getD, take, drop, length-drop, take-append-drop, drop-of-length-le}
 use lib.Seq.{drop-cons, drop-drop, take-length}
 use Rattle.lists.specs.Cut.{window}
+use Rattle.lists.specs.Sum.{sum}
 use Rattle.lists.proofs.Cut.{length-window}
 use Rattle.seeds.specs.Seeds.{placed}
 use Rattle.seeds.proofs.Storing.{length-placed}
 use Rattle.index_search.specs.Work.{Way}
 use Rattle.ledger.specs.Booking.{Counters}
-use Rattle.ledger.specs.Balance.{sum}
 use Rattle.audit_rules.specs.declared.settings.AuditState.{AuditState}
 use Rattle.audit_rules.specs.declared.settings.Settings.{Settings}
 use Rattle.audit_rules.specs.Settings.{Held}

@@ -4,13 +4,13 @@ use mathlib.Core.List.{List, [], _∷_, _++_}
 use Prim.Native.Nat.{ℕ, _+_, _*_, _≤_}
 use lib.ListN.{length, drop}
 use Rattle.lists.specs.Cut.{window}
+use Rattle.lists.specs.Sum.{sum}
 use Rattle.promises.specs.Refusal.{outcome}
 use Rattle.names.specs.Lent.{EndsRight}
 use Rattle.seeds.specs.Seeds.{placed}
 use Rattle.scan.specs.Entries.{entryCount}
 use Rattle.index_search.specs.Work.{Way}
 use Rattle.ledger.specs.Booking.{Counters}
-use Rattle.ledger.specs.Balance.{sum}
 use Rattle.audit_rules.specs.declared.settings.AuditState.{AuditState}
 use Rattle.audit_rules.specs.Settings.{Held}
 use Rattle.audit_rules.specs.Opening.{IndexLent}

@@ -18,3 +18,4 @@ pub mod Cut
 pub mod Runs
 pub mod Tails
 pub mod Raised
+pub mod Sum

@@ -8,3 +8,4 @@ pub mod Cut
 pub mod Same
 pub mod Numbers
 pub mod Raised
+pub mod Sum

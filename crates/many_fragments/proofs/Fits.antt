@@ -11,12 +11,12 @@ use lib.Dec.{eqb}
 use borrow.Author.Tests.{eqb-true}
 use Rattle.lists.specs.Cut.{endsWithin}
 use Rattle.lists.specs.Filter.{every}
+use Rattle.lists.specs.Sum.{sum}
 use Rattle.lists.proofs.Cases.{and-true}
 use Rattle.promises.specs.Refusal.{unless, outcome}
 use Rattle.scan.specs.Entries.{entryCount}
 use Rattle.index_search.specs.Work.{Way}
 use Rattle.ledger.specs.Booking.{Counters}
-use Rattle.ledger.specs.Balance.{sum}
 use Rattle.audit_rules.specs.declared.calls.CallAnswer.the-variants as calls
 use Rattle.audit_rules.specs.declared.settings.AuditState.{AuditState}
 use Rattle.audit_rules.specs.Settings.{Held}

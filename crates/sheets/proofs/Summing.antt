@@ -11,9 +11,10 @@ use lib.Seq.{drop-cons}
 use lib.Dec.{eqb}
 use borrow.Author.Tests.{le-leb, lt-leb}
 use Rattle.lists.specs.Numbers.{numbers}
+use Rattle.lists.specs.Sum.{sum}
 use Rattle.ledger.specs.declared.Ledger.{Ledger}
 use Rattle.ledger.specs.Booking.{cell, maxCounter}
-use Rattle.ledger.specs.Balance.{sum, agree, countOf, roleAgrees}
+use Rattle.ledger.specs.Balance.{agree, countOf, roleAgrees}
 use Rattle.audit_rules.specs.Settings.{statesShown}
 
 -- ---- one by one
