@@ -1,30 +1,26 @@
 -- The fragments of a list, one after the other: what is done, and what is left to do.
 -- Assumes nothing.
 use mathlib.Core.Path.{_≡_, refl, sym, ap, ap₂, subst, _∙_}
-use mathlib.Core.Bool.{Bool}
 use mathlib.Core.List.{List, [], _∷_, _++_, append-assoc, append-nil}
-use Prim.Native.Nat.{ℕ, zero, suc, _+_, _*_, _≤_, _<_}
+use Prim.Native.Nat.{ℕ, suc, _+_, _*_, _≤_, _<_}
 use native.Mathlib.Omega.{arith}
 use native.Mathlib.Numerals.{add-one}
 use native.Mathlib.Nat.{mul-zero, mul-suc, mul-le-mul-left}
-use lib.ListN.{length, getD, take, drop, length-drop, take-append-drop, drop-of-length-le}
+use lib.ListN.{length, getD, take, drop, take-append-drop, drop-of-length-le}
 use lib.Seq.{drop-cons, drop-drop, take-length}
 use Rattle.lists.specs.Cut.{window}
 use Rattle.lists.specs.Sum.{sum}
 use Rattle.lists.proofs.Cut.{length-window}
-use Rattle.seeds.specs.Seeds.{placed}
 use Rattle.seeds.proofs.Storing.{length-placed}
 use Rattle.index_search.specs.Work.{Way}
 use Rattle.ledger.specs.Booking.{Counters}
 use Rattle.audit_rules.specs.declared.settings.AuditState.{AuditState}
-use Rattle.audit_rules.specs.declared.settings.Settings.{Settings}
 use Rattle.audit_rules.specs.Settings.{Held}
 use Rattle.audit_rules.specs.Opening.{IndexLent}
-use Rattle.audit_rules.specs.Run.{Call, Answer}
-use Rattle.tested_fragments.specs.Tested.{Tested}
-use Rattle.fragment_lists.specs.Lists.{ReadLists, FragmentLists, fragmentLists, fragmentsFrom, fragmentsIn}
+use Rattle.audit_rules.specs.Run.{Call}
+use Rattle.fragment_lists.specs.Lists.{ReadLists, fragmentsFrom}
 use Rattle.fragment_lists.specs.Listed.{callsOf, fragmentRows, allRows, allShares}
-use Rattle.listed_fragments.specs.Listed.{ListsLent, callAt, testedAnswer, testedNext, testedAnswers, testedAfter, FragmentListed, ListAudited}
+use Rattle.listed_fragments.specs.Listed.{callAt, testedAnswer, testedAnswers, testedAfter, FragmentListed, ListAudited}
 use Rattle.listed_fragments.proofs.Mates.{length-reads}
 use Rattle.listed_fragments.proofs.Shares.{Alike, length-told, length-share, next-alike, take-placed, drop-placed}
 

@@ -3,7 +3,6 @@ use mathlib.Core.Path.{_≡_}
 use mathlib.Core.List.{List, [], _∷_, _++_}
 use Prim.Native.Nat.{ℕ, _+_, _*_, _≤_}
 use lib.ListN.{length, drop}
-use Rattle.lists.specs.Cut.{window}
 use Rattle.lists.specs.Sum.{sum}
 use Rattle.promises.specs.Refusal.{outcome}
 use Rattle.names.specs.Lent.{EndsRight}
@@ -16,8 +15,8 @@ use Rattle.audit_rules.specs.Settings.{Held}
 use Rattle.audit_rules.specs.Opening.{IndexLent}
 use Rattle.audit_rules.specs.Fragment.{entriesLeft, testedRefusal, testedRows, testedAccepted, testedWritten, heldAfter}
 use Rattle.audit_rules.specs.Run.{Call, Answer}
-use Rattle.fragment_lists.specs.Lists.{ReadLists, FragmentLists, readsFrom, fragmentsIn}
-use Rattle.fragment_lists.specs.Listed.{callsOf, fragmentRows, allRows, allShares}
+use Rattle.fragment_lists.specs.Lists.{ReadLists, FragmentLists, readsFrom}
+use Rattle.fragment_lists.specs.Listed.{fragmentRows, allRows, allShares}
 
 -- reads whose ends are right
 pub record ReadsLent (l : ReadLists) : Type 0 where

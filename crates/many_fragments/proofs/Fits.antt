@@ -10,7 +10,6 @@ use lib.ListN.{length}
 use lib.Dec.{eqb}
 use borrow.Author.Tests.{eqb-true}
 use Rattle.lists.specs.Cut.{endsWithin}
-use Rattle.lists.specs.Filter.{every}
 use Rattle.lists.specs.Sum.{sum}
 use Rattle.lists.proofs.Cases.{and-true}
 use Rattle.promises.specs.Refusal.{unless, outcome}
@@ -21,11 +20,10 @@ use Rattle.audit_rules.specs.declared.calls.CallAnswer.the-variants as calls
 use Rattle.audit_rules.specs.declared.settings.AuditState.{AuditState}
 use Rattle.audit_rules.specs.Settings.{Held}
 use Rattle.audit_rules.specs.Opening.{IndexLent}
-use Rattle.audit_codes.specs.Codes.{isRole, isMark}
 use Rattle.fragment_lists.specs.Lists.{FragmentLists, fragmentsFrom, fragmentsIn, countsFit, lengthsFit, endsFit, codesFit, listsFit}
 use Rattle.fragment_lists.specs.Listed.{shareWidth, callsOf}
 use Rattle.listed_fragments.specs.Listed.{ListsLent, ListAudited}
-use Rattle.many_fragments.specs.Tested.{fitRefusal, TestedList}
+use Rattle.many_fragments.specs.Tested.{TestedList}
 
 -- ---- what fits
 

@@ -1,16 +1,15 @@
 -- The candidates of one side, passed over, are the smaller ones of two.
 -- Assumes nothing.
-use mathlib.Core.Path.{_≡_, refl, sym, ap, _∙_}
-use mathlib.Core.Bool.{Bool, true, false, cond, not, _||_}
+use mathlib.Core.Path.{_≡_, refl, ap, _∙_}
+use mathlib.Core.Bool.{Bool, true, false, cond, _||_}
 use mathlib.Core.List.{List}
 use mathlib.Core.Logic.{_⊎_, inl, inr}
 use Prim.Native.Nat.{ℕ, zero, suc, _<_}
 use native.Mathlib.Omega.{arith}
-use lib.ListN.{length}
 use Rattle.lists.proofs.Cases.{by-test, clash, and-true}
 use Rattle.lists.proofs.Triple.{Before, before-test, test-before}
 use Rattle.places.specs.Place.{place, triple, before, matches}
-use Rattle.candidates.specs.Cursor.{CursorIn, CursorsIn, plusFirst, OneMoved}
+use Rattle.candidates.specs.Cursor.{CursorIn, CursorsIn, plusFirst}
 use Rattle.candidates.specs.declared.cursor.Candidate.{Candidate}
 use Rattle.candidates.specs.declared.sides.Sides.{Sides}
 use Rattle.passing.specs.Passing.{placeOf, firstOf, Steps, PassedOne, PassedOver, SkippedOne, Skipped, Sooner}

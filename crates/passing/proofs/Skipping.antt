@@ -1,9 +1,9 @@
 -- Candidates of one side passed over, one after the other.
 -- Assumes nothing.
-use mathlib.Core.Path.{_≡_, refl, sym, ap, _∙_}
+use mathlib.Core.Path.{_≡_, refl, sym}
 use mathlib.Core.Bool.{true}
 use mathlib.Core.List.{List, []}
-use Prim.Native.Nat.{ℕ, zero, suc, _+_, _-_, _<_, _≤_}
+use Prim.Native.Nat.{ℕ, _+_, _-_, _≤_}
 use native.Mathlib.Omega.{arith}
 use native.Mathlib.Numerals.{add-one}
 use lib.ListN.{length, getD}
@@ -11,12 +11,12 @@ use lib.Dec.{leb}
 use borrow.Author.Tests.{leb-true}
 use Rattle.lists.proofs.Cases.{and-true}
 use Rattle.seeds.specs.Window.{fitsIn}
-use Rattle.places.specs.Place.{Laid, matches}
+use Rattle.places.specs.Place.{matches}
 use Rattle.candidates.specs.Search.{fits, lies}
 use Rattle.candidates.specs.Cursor.{Taken}
 use Rattle.candidates.specs.declared.cursor.Candidate.{Candidate}
 use Rattle.candidates.proofs.Moving.{passing-none, passing-found}
-use Rattle.passing.specs.Passing.{placeOf, SkippedOne, Skipped, Followed}
+use Rattle.passing.specs.Passing.{Skipped, Followed}
 
 -- the candidate of a side at a start, in front of posting i
 abbrev pub candidateAt : Candidate → ℕ → ℕ → Candidate
@@ -41,9 +41,6 @@ module _ (ss : List (List ℕ)) (read rs os : List ℕ) (first : Candidate) (lim
   module _ (start i count : ℕ) (p : Passing start i count) (s : List ℕ) (is : s ≡ getD ss (first .rank) []) (f : Followed s read rs os (first .cursor) (first .rank) limit start i) where
     lies-next : fits (getD ss (getD rs i 0) []) (length read) (first .cursor .offset) (getD os i 0) ≡ true
     lies-next = rw (f .ranked, ← is) (f .room)
-
-    start-next : ℕ
-    start-next = getD os i 0 - first .cursor .offset
 
     taken-next : Taken ss (length read) rs os (candidateAt first start i .cursor) (candidateAt first (getD os i 0 - first .cursor .offset) (i + 1))
     taken-next =

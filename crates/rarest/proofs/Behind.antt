@@ -1,19 +1,17 @@
 -- The bases behind postings, one posting after the other.
 -- Assumes nothing.
-use mathlib.Core.Path.{_≡_, refl, sym, ap, subst, _∙_}
+use mathlib.Core.Path.{_≡_, refl, sym, ap, subst}
 use mathlib.Core.Bool.{true}
 use mathlib.Core.List.{List, []}
 use Prim.Native.Nat.{ℕ, _+_, _-_, _≤_, _<_}
 use native.Mathlib.Omega.{arith}
-use native.Mathlib.Numerals.{add-one}
-use native.Mathlib.Nat.{add-zero}
 use lib.ListN.{length, getD}
 use lib.Dec.{ltb}
 use borrow.Author.Tests.{ltb-true, ltb-false}
 use Rattle.lists.proofs.Cases.{by-test}
 use Rattle.lists.proofs.Every.{every-at}
 use Rattle.bases.specs.Read.{capitals}
-use Rattle.index.specs.Index.{rankedSequences, Lent}
+use Rattle.index.specs.Index.{rankedSequences}
 use Rattle.index.proofs.Sequencing.{ranked-many}
 use Rattle.places.specs.Agreeing.{agreeing, Reach, Agreed}
 use Rattle.places.proofs.Alike.{agree-each, each-agree}

@@ -1,5 +1,4 @@
 // The rarest seed of a read on a strand: the first offset with fewest postings.
-ghost use mathlib.Core.Path.{_≡_};
 ghost use Prim.Native.Nat.{_+_, _≤_};
 ghost use Rattle.promises.specs.Slice.{old};
 ghost use Rattle.bases.specs.Read.{oriented};

@@ -1,14 +1,12 @@
 -- `passing::pass` meets its contract: the side of the smaller candidate goes along, up to the candidate of the other one.
 -- Assumes nothing.
 use mathlib.Core.Path.{_≡_, refl, sym, ap, _∙_}
-use mathlib.Core.Bool.{true, false, not, cond, _||_}
-use native.Mathlib.Omega.{arith}
+use mathlib.Core.Bool.{not, cond}
 use lib.ListN.{length}
 use borrow.Author.Needs.{needs}
-use borrow.Author.Tests.{not-true, not-false}
+use borrow.Author.Tests.{not-false}
 use Rattle.index.specs.Index.{rankedSequences}
 use Rattle.scan.proofs.Visiting.{fit-ranked, fit-inside, fit-capitals}
-use Rattle.candidates.specs.declared.sides.Sides.{Sides}
 use Rattle.passing.specs.Passing.{placeOf, firstOf}
 use Rattle.passing.proofs.Siding.{first-waits, first-cursor, passed-plus, passed-minus}
 use Rattle.passing.proofs.pass.Statement.{statement}

@@ -1,7 +1,6 @@
 -- `shares::approach::go_nearer` stays within its arrays.
 -- Assumes nothing.
 use Prim.Native.Nat.{_-_, _≤_}
-use native.Mathlib.Omega.{arith}
 use borrow.Author.Needs.{needs}
 use Rattle.shares.proofs.approach.go_nearer.Statement.{statement}
 use Rattle.shares.proofs.approach.go_nearer.Tie as tie
