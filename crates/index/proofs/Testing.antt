@@ -1,10 +1,12 @@
--- How the test of a lent index goes: one posting, one row after the other, a block of rows, all rows; and what the last bases of a block tell.
+-- How the test of a lent index goes: one posting, one row after the other, a block of rows, all rows; and what the first and last bases of a block tell.
 -- Assumes nothing.
 use mathlib.Core.Path.{_≡_, refl, sym, ap, subst, _∙_}
 use mathlib.Core.Bool.{Bool, true, false, _&&_}
 use mathlib.Core.Logic.{_⊎_, inl, inr}
 use mathlib.Core.List.{List, []}
-use Prim.Native.Nat.{ℕ, zero, suc, _+_, _-_, _*_, _%_, _<_, _≤_}
+use Prim.Native.Nat.{ℕ, zero, suc, _+_, _-_, _*_, _%_, _^_, _<_, _≤_}
+use native.Mathlib.Numerals.{sub-one}
+use native.Mathlib.Nat.{mul-le-mul-right, pow-le-pow-right}
 use native.Mathlib.Omega.{arith}
 use lib.ListN.{length, getD}
 use lib.Dec.{ltb, eqb}
@@ -15,11 +17,11 @@ use Rattle.lists.proofs.Cases.{by-test, clash, compare, and-true}
 use Rattle.lists.proofs.Every.{every-at}
 use Rattle.bases.specs.Base.{codeOf, isCapital}
 use Rattle.bases.specs.Read.{capitals}
-use Rattle.bases.proofs.Bytes.{letter-low, letter-capital}
+use Rattle.bases.proofs.Bytes.{code-le, letter-low, letter-capital}
 use Rattle.columns.specs.Posting.{posting, earlier, row}
-use Rattle.seeds.specs.Key.{keyOf}
+use Rattle.seeds.specs.Key.{keyOf, SeedLength}
 use Rattle.seeds.specs.Window.{starts}
-use Rattle.seeds.proofs.Keying.{key-more}
+use Rattle.seeds.proofs.Keying.{key-first, key-more}
 use Rattle.index.specs.Index.{isSeed, RowsRight, Block, BlockRight, Climbs, Tells, Denies}
 
 -- ---- one seed
@@ -34,6 +36,10 @@ module _ (q : ℕ) (s : List ℕ) (start key : ℕ) where
 
     pub by-key : start ≤ length s - q → (k : ℕ) → k ≡ keyOf (window s start q) → eqb key k ≡ (ltb start (starts q s) && eqb key (keyOf (window s start q)))
     by-key h k e = rw (lt-ltb start (starts q s) (omega arith), e)
+
+-- the sequence of a rank has capitals
+pub rank-capitals : (ss : List (List ℕ)) (rank : ℕ) → every capitals ss ≡ true → rank < length ss → (s : List ℕ) → s ≡ getD ss rank [] → capitals s ≡ true
+rank-capitals ss rank c h s e = rw e (every-at capitals [] ss c rank h)
 
 module _ (q : ℕ) (ss : List (List ℕ)) (key rank position : ℕ) where
   pub no-rank : length ss ≤ rank → false ≡ isSeed q ss (posting key rank position)
@@ -136,7 +142,7 @@ module _ (q : ℕ) (ss : List (List ℕ)) (ks rs os : List ℕ) where
           climb = λ j l. by-test (ltb (suc j) i) (λ t. s .climb j (ltb-true (suc j) i t)) (λ t. r .climb (suc j) (ltb-false (suc j) i t) (omega arith));
         }
 
--- ---- the last base of a row
+-- ---- the ends of a row
 
 -- the last digit of the key of a seed is its last base
 last-digit : (s : List ℕ) (q start : ℕ) → capitals s ≡ true → 1 ≤ q → start + q ≤ length s → keyOf (window s start q) % 4 ≡ codeOf (getD s (start + (q - 1)) 0)
@@ -147,35 +153,57 @@ last-digit s q start c some h =
     let k : keyOf (window s start q) ≡ keyOf (window s start (q - 1)) * 4 + codeOf b = rw e at (key-more s start (q - 1) (omega arith)) in
     omega arith
 
+-- the key of a seed is at least what its first base counts
+first-digit : (s : List ℕ) (q start : ℕ) → 1 ≤ q → start + q ≤ length s → codeOf (getD s start 0) * 4 ^ (q - 1) ≤ keyOf (window s start q)
+first-digit s zero start some h = absurd (omega arith)
+first-digit s (suc p) start some h = rw sub-one (omega (arith, key-first s start p h))
+
+-- which fits 64 bits
+pub first-fits : (q : ℕ) → SeedLength q → (b code high : ℕ) → code ≡ codeOf b → high ≡ 4 ^ (q - 1) → code * high < 2 ^ 64
+first-fits q size b code high e f =
+    let few : q - 1 ≤ 30 = omega (arith, size .most) in
+    let p : 4 ^ (q - 1) ≤ 4 ^ 30 = pow-le-pow-right (omega arith) few in
+    let m = mul-le-mul-right (4 ^ (q - 1)) (code-le b) in
+    rw (e, f) (omega (arith, m, p))
+
 -- what is no seed is denied to be one
 pub denied : {b : Bool} → false ≡ b → Denies false (b ≡ true)
 denied e = record { not-so = λ t h. clash h (sym e) }
 
--- a posting is no seed if its last base is another
-pub by-last : (q : ℕ) (ss : List (List ℕ)) (key rank position : ℕ) → every capitals ss ≡ true → 1 ≤ q → rank < length ss → (s : List ℕ) → s ≡ getD ss rank [] → position + q ≤ length s → (code at : ℕ) → code ≡ codeOf (getD s at 0) → at ≡ position + (q - 1) → Denies (eqb (key % 4) code) (isSeed q ss (posting key rank position) ≡ true)
-by-last q ss key rank position c some h s e inside code at g f = record { not-so = λ t k. clash (same k) t }
-  where
-    same : isSeed q ss (posting key rank position) ≡ true → eqb (key % 4) code ≡ true
-    same k =
-        let a = and-true (ltb position (starts q s)) (eqb key (keyOf (window s position q))) (some-rank q ss key rank position h s e ∙ k) in
-        let z : key ≡ keyOf (window s position q) = eqb-true key (keyOf (window s position q)) (a .1) in
-        let d = last-digit s q position (rw e (every-at capitals [] ss c rank h)) some inside in
-        eq-eqb (key % 4) code (rw z (d ∙ sym (g ∙ ap (λ n. codeOf (getD s n 0)) f)))
+module _ (q : ℕ) (ss : List (List ℕ)) (key rank position : ℕ) (some : 1 ≤ q) (h : rank < length ss) (s : List ℕ) (e : s ≡ getD ss rank []) (inside : position + q ≤ length s) where
+  -- the key of a posting that is a seed
+  its-key : isSeed q ss (posting key rank position) ≡ true → key ≡ keyOf (window s position q)
+  its-key k =
+      let a = and-true (ltb position (starts q s)) (eqb key (keyOf (window s position q))) (some-rank q ss key rank position h s e ∙ k) in
+      eqb-true key (keyOf (window s position q)) (a .1)
 
--- ---- the last bases of a block
+  -- a posting is no seed if its key is less than its first base counts
+  pub by-first : (code high : ℕ) → code ≡ codeOf (getD s position 0) → high ≡ 4 ^ (q - 1) → key < code * high → Denies false (isSeed q ss (posting key rank position) ≡ true)
+  by-first code high f g l = record { not-so = λ t k. absurd (omega (arith, its-key k, rw (sym f, sym g) at (first-digit s q position some inside))) }
+
+  -- and if its last base is another
+  pub by-last : every capitals ss ≡ true → (code at : ℕ) → code ≡ codeOf (getD s at 0) → at ≡ position + (q - 1) → Denies (eqb (key % 4) code) (isSeed q ss (posting key rank position) ≡ true)
+  by-last c code at g f = record { not-so = λ t k. clash (same k) t }
+    where
+      same : isSeed q ss (posting key rank position) ≡ true → eqb (key % 4) code ≡ true
+      same k =
+          let d = last-digit s q position (rank-capitals ss rank c h s e) some inside in
+          eq-eqb (key % 4) code (rw (its-key k) (d ∙ sym (g ∙ ap (λ n. codeOf (getD s n 0)) f)))
+
+-- ---- the ends of a block
 
 -- a block under way: if its rows up to i deny that all rows are right, they are not
-pub record LastTo (q : ℕ) (ss : List (List ℕ)) (ks rs os : List ℕ) (end i : ℕ) (right : Bool) : Type 0 where
+pub record EndsTo (q : ℕ) (ss : List (List ℕ)) (ks rs os : List ℕ) (end i : ℕ) (right : Bool) : Type 0 where
   pub inside : i ≤ end
   pub denies : Denies right (RowsRight q ss ks rs os)
 
 module _ (q : ℕ) (ss : List (List ℕ)) (ks rs os : List ℕ) where
-  pub last-none : (end i : ℕ) → i ≤ end → LastTo q ss ks rs os end i true
-  last-none end i h = record { inside = h; denies = record { not-so = λ t k. clash refl t } }
+  pub ends-none : (end i : ℕ) → i ≤ end → EndsTo q ss ks rs os end i true
+  ends-none end i h = record { inside = h; denies = record { not-so = λ t k. clash refl t } }
 
-  pub last-more : (end i n : ℕ) (right r : Bool) → LastTo q ss ks rs os end i right → i < end → end ≤ length ks → n ≡ i + 1 → (key rank position : ℕ) → key ≡ getD ks i 0 → rank ≡ getD rs i 0 → position ≡ getD os i 0
-      → Denies r (isSeed q ss (posting key rank position) ≡ true) → LastTo q ss ks rs os end n (right && r)
-  last-more end i n right r s h inside e key rank position f g o d = record { inside = omega arith; denies = record { not-so = wrong right (s .denies) } }
+  pub ends-more : (end i n : ℕ) (right r : Bool) → EndsTo q ss ks rs os end i right → i < end → end ≤ length ks → n ≡ i + 1 → (key rank position : ℕ) → key ≡ getD ks i 0 → rank ≡ getD rs i 0 → position ≡ getD os i 0
+      → Denies r (isSeed q ss (posting key rank position) ≡ true) → EndsTo q ss ks rs os end n (right && r)
+  ends-more end i n right r s h inside e key rank position f g o d = record { inside = omega arith; denies = record { not-so = wrong right (s .denies) } }
     where
       wrong : (b : Bool) → Denies b (RowsRight q ss ks rs os) → (b && r) ≡ false → RowsRight q ss ks rs os → ⊥
       wrong true m t k = d .not-so t (sym (row-seed ks rs os q ss i key rank position _ f g o refl) ∙ k .seeds i (omega arith))

@@ -1,12 +1,13 @@
 // The test of a lent index, block by block: every row is a seed and earlier than the next, and there are as many as seeds.
 ghost use mathlib.Core.Path.{_≡_};
 ghost use mathlib.Core.Bool.{true, _&&_};
-ghost use Prim.Native.Nat.{_<_};
+ghost use Prim.Native.Nat.{_-_, _^_, _<_};
 ghost use lib.ListN.{length};
 ghost use lib.Dec.{ltb, eqb};
 ghost use Rattle.lists.specs.Cut.{window};
 ghost use Rattle.promises.specs.Slice.{old};
 ghost use Rattle.bases.specs.Base.{Table};
+ghost use Rattle.bases.specs.Read.{capitals};
 ghost use Rattle.columns.specs.Posting.{Columns, posting};
 ghost use Rattle.seeds.specs.Key.{keyOf, SeedLength};
 ghost use Rattle.seeds.specs.Window.{starts};
@@ -19,7 +20,8 @@ use columns::precedes;
 use lookup::read::posting_key;
 use lookup::read::posting_position;
 use lookup::read::posting_rank;
-use seeds::keys::key_at;
+use seeds::fours::key_by_fours;
+use seeds::keys::power;
 
 // So many rows are tested together: their bases are asked for first, all at once.
 const BLOCK: usize = 64;
@@ -27,7 +29,7 @@ const BLOCK: usize = 64;
 // Whether a seed of a sequence has a start and a key.
 fn has_seed(table: &[u16; 256], sequence: &[u8], q: usize, start: usize, key: u64) -> bool
     requires { ⌜ Table (now table) ⌝ }
-    requires { ⌜ SeedLength q ⌝ }
+    requires { ⌜ SeedLength q × (capitals (now sequence) ≡ true) ⌝ }
     ensures { λ r. ⌜ r ≡ (ltb start (starts q (old sequence)) && eqb key (keyOf (window (old sequence) start q))) ⌝ }
 {
     if sequence.len() < q {
@@ -36,7 +38,7 @@ fn has_seed(table: &[u16; 256], sequence: &[u8], q: usize, start: usize, key: u6
     if sequence.len() - q < start {
         return false;
     }
-    key == key_at(table, sequence, 0, q, start)
+    key == key_by_fours(table, sequence, q, start)
 }
 
 // Whether a posting is a seed of the ranked sequences.
@@ -83,8 +85,9 @@ fn block_end(from: usize, rows: usize) -> usize
     from + BLOCK
 }
 
-// Whether the last digit of a key is the last base of a seed; a posting is no seed where it is not.
-fn last_base_right(
+// Whether the first base of a seed is not above the first digit of a key, and the last base is the last digit; a posting is no seed
+// where it is not so. The first digit counts `high`.
+fn ends_right(
     table: &[u16; 256],
     key: u64,
     rank: usize,
@@ -93,9 +96,10 @@ fn last_base_right(
     ends: &[usize],
     ranked: &[usize],
     q: usize,
+    high: u64,
 ) -> bool
     requires { ⌜ Table (now table) ⌝ }
-    requires { ⌜ Lent (now bases) (now ends) (now ranked) × SeedLength q ⌝ }
+    requires { ⌜ Lent (now bases) (now ends) (now ranked) × (SeedLength q × (high ≡ 4 ^ (q - 1))) ⌝ }
     ensures { λ r. ⌜ Denies r (isSeed q (lentSequences bases ends ranked) (posting key rank position) ≡ true) ⌝ }
 {
     if rank >= ranked.len() {
@@ -108,12 +112,15 @@ fn last_base_right(
     if sequence.len() - q < position {
         return false;
     }
+    if key < oriented_code(table, sequence, 0, position) * high {
+        return false;
+    }
     key % 4 == oriented_code(table, sequence, 0, position + (q - 1))
 }
 
-// Whether the last base of every row of a block is right. It only makes the test quick: no row waits for another, so that
-// the machine reads their bases at the same time, and `block_right`, which tests everything, finds them at hand.
-fn last_bases_right(
+// Whether the first and the last base of every row of a block are right. It only makes the test quick: no row waits for another, so
+// that the machine reads their bases at the same time, and `block_right`, which tests everything, finds them at hand.
+fn block_ends_right(
     table: &[u16; 256],
     keys: &[u64],
     ranks: &[u64],
@@ -130,13 +137,14 @@ fn last_bases_right(
     requires { ⌜ Block (length (now keys)) from end ⌝ }
     ensures { λ r. ⌜ Denies r (RowsRight q (lentSequences bases ends ranked) (old keys) (old ranks) (old positions)) ⌝ }
 {
+    let high = power(q - 1);
     let mut right = true;
     let mut row = from;
     while row < end {
         let key = posting_key(keys, row);
         let rank = posting_rank(ranks, row);
         let position = posting_position(positions, row);
-        right = right & last_base_right(table, key, rank, position, bases, ends, ranked, q);
+        right = right & ends_right(table, key, rank, position, bases, ends, ranked, q, high);
         row += 1;
     }
     right
@@ -193,7 +201,7 @@ fn rows_right(
     let mut from = 0;
     while from < keys.len() {
         let end = block_end(from, keys.len());
-        if !last_bases_right(
+        if !block_ends_right(
             &table,
             keys,
             ranks,

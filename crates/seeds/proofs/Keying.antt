@@ -16,7 +16,7 @@ use Rattle.bases.specs.Base.{codeOf, upperOf, isCapital}
 use Rattle.bases.specs.Read.{letters, oriented}
 use Rattle.bases.proofs.Bytes.{code-le, letter-low}
 use Rattle.bases.proofs.Turning.{length-oriented}
-use Rattle.seeds.specs.Key.{keyOf, SeedLength, SeedIn, KeyHeld}
+use Rattle.seeds.specs.Key.{keyOf, SeedLength, SeedIn, KeyBegun, KeyHeld}
 use Rattle.seeds.proofs.Windows.{fits-end, end-fits}
 
 -- a seed within a sequence ends at most at the end
@@ -60,7 +60,8 @@ key-room w h =
     let p : 4 ^ length w ≤ 4 ^ 30 = pow-le-pow-right (omega arith) h in
     omega (arith, key-loose w)
 
-key-fits : (w : List ℕ) → length w ≤ 31 → keyOf w < 2 ^ 64
+-- at most 31 bases have a key of 64 bits
+pub key-fits : (w : List ℕ) → length w ≤ 31 → keyOf w < 2 ^ 64
 key-fits w h =
     let p : 4 ^ length w ≤ 4 ^ 31 = pow-le-pow-right (omega arith) h in
     omega (arith, key-loose w)
@@ -81,7 +82,7 @@ pub more-room : (l : List ℕ) (start i : ℕ) → start + i ≤ length l → i 
 more-room l start i h k = key-room (windowOf l start i) (omega (arith, length-window l start i h))
 
 -- the first digit
-key-first : (l : List ℕ) (start p : ℕ) → start + suc p ≤ length l → keyOf (windowOf l start (suc p)) ≡ codeOf (getD l start 0) * 4 ^ p + keyOf (windowOf l (start + 1) p)
+pub key-first : (l : List ℕ) (start p : ℕ) → start + suc p ≤ length l → keyOf (windowOf l start (suc p)) ≡ codeOf (getD l start 0) * 4 ^ p + keyOf (windowOf l (start + 1) p)
 unfolding keyOf
 key-first l start p h =
     let e : windowOf l start (suc p) ≡ getD l start 0 ∷ windowOf l (start + 1) p = rw (drop-cons l start 0 (omega arith), add-one) in
@@ -115,12 +116,9 @@ step l start zero high key first last s k f g = absurd (omega (arith, s .size .s
 step l start (suc p) high key first last s k f g =
     rw (k .first-digit, k .key-is, f, g, sub-one) (step-by l start p (s .size .most) (omega (arith, seed-end l (suc p) (start + 1) s)))
 
--- a key under way: the first i digits
-pub record Digits (l : List ℕ) (start q key i : ℕ) : Type 0 where
-  pub inside : i ≤ q
-  pub digits : key ≡ keyOf (windowOf l start i)
+-- ---- a key under way
 
-pub digits-start : (l : List ℕ) (start q : ℕ) → Digits l start q 0 0
+pub digits-start : (l : List ℕ) (start q : ℕ) → KeyBegun l q start 0 0
 unfolding keyOf
 digits-start l start q = record { inside = omega arith; digits = refl }
 
@@ -128,9 +126,9 @@ digits-start l start q = record { inside = omega arith; digits = refl }
 pub record Digit (l : List ℕ) (start q key i code : ℕ) : Type 0 where
   pub room : key * 4 + 4 < 2 ^ 64
   pub small : code ≤ 4
-  pub next : Digits l start q (key * 4 + code) (i + 1)
+  pub next : KeyBegun l q start (i + 1) (key * 4 + code)
 
-module _ (strand : ℕ) (bs : List ℕ) (start q key i : ℕ) (s : SeedIn bs q start) (d : Digits (oriented strand bs) start q key i) where
+module _ (strand : ℕ) (bs : List ℕ) (start q key i : ℕ) (s : SeedIn bs q start) (d : KeyBegun (oriented strand bs) q start i key) where
   seed-fits : start + q ≤ length (oriented strand bs)
   seed-fits = seed-end (oriented strand bs) q start (seed-oriented strand bs q start s)
 

@@ -1,4 +1,5 @@
 pub mod Windows
 pub mod Keying
+pub mod Capitals
 pub mod Storing
 pub mod Placed

@@ -5,7 +5,7 @@ ghost use Rattle.promises.specs.Slice.{old};
 ghost use Rattle.bases.specs.Base.{Table};
 ghost use Rattle.bases.specs.Read.{oriented};
 ghost use Rattle.seeds.specs.Window.{windowOf};
-ghost use Rattle.seeds.specs.Key.{keyOf, maxSeed, SeedIn, KeyHeld};
+ghost use Rattle.seeds.specs.Key.{keyOf, maxSeed, SeedIn, KeyBegun, KeyHeld};
 use bases::strand::oriented_code;
 
 // 4 to the power n.
@@ -22,20 +22,38 @@ pub fn power(n: usize) -> u64
     p
 }
 
-// The key of the q bases at a start.
-pub fn key_at(table: &[u16; 256], sequence: &[u8], strand: u64, q: usize, start: usize) -> u64
+// The key of the q bases at a start, from the key of the first `done` of them.
+pub(crate) fn key_from(
+    table: &[u16; 256],
+    sequence: &[u8],
+    strand: u64,
+    q: usize,
+    start: usize,
+    done: usize,
+    begun: u64,
+) -> u64
     requires { ⌜ Table (now table) ⌝ }
     requires { ⌜ SeedIn (now sequence) q start ⌝ }
+    requires { ⌜ KeyBegun (oriented strand (now sequence)) q start done begun ⌝ }
     ensures { λ r. ⌜ r ≡ keyOf (windowOf (oriented strand (old sequence)) start q) ⌝ }
 {
-    let mut key: u64 = 0;
-    let mut i = 0;
+    let mut key = begun;
+    let mut i = done;
     while i < q {
         let code = oriented_code(table, sequence, strand, start + i);
         key = key * 4 + code;
         i += 1;
     }
     key
+}
+
+// The key of the q bases at a start.
+pub fn key_at(table: &[u16; 256], sequence: &[u8], strand: u64, q: usize, start: usize) -> u64
+    requires { ⌜ Table (now table) ⌝ }
+    requires { ⌜ SeedIn (now sequence) q start ⌝ }
+    ensures { λ r. ⌜ r ≡ keyOf (windowOf (oriented strand (old sequence)) start q) ⌝ }
+{
+    key_from(table, sequence, strand, q, start, 0, 0)
 }
 
 // From the key at a start to the key at the next one; high is 4 to the power q - 1, what the first digit counts.

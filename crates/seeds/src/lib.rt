@@ -1,2 +1,3 @@
 // Seeds and their keys.
+pub mod fours;
 pub mod keys;

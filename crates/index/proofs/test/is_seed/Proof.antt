@@ -4,7 +4,7 @@ use native.Mathlib.Omega.{arith}
 use mathlib.Core.Path.{_∙_}
 use Rattle.index.specs.Index.{rankedSequences}
 use Rattle.index.proofs.Sequencing.{ranked-many}
-use Rattle.index.proofs.Testing.{no-rank, some-rank}
+use Rattle.index.proofs.Testing.{no-rank, some-rank, rank-capitals}
 use borrow.Author.Needs.{needs}
 use Rattle.index.proofs.test.is_seed.Statement.{statement}
 use Rattle.index.proofs.test.is_seed.Tie as tie
@@ -20,7 +20,11 @@ ranked-sequence-requires : tie.Need-ranked-sequence-requires
 ranked-sequence-requires c κs = (c .before .before .before .before .pre .1 .0, omega (arith, c .if1 .left))
 
 has-seed-requires : tie.Need-has-seed-requires
-has-seed-requires c κs = search needs
+has-seed-requires c κs =
+    let b = c .before .before .before .before .before in
+    let a = b .args in
+    let z = ranked-many (a .bases .now) (a .ends .now) (a .ranked .now) in
+    (b .pre .0, (b .pre .1 .1, rank-capitals (rankedSequences (a .bases .now) (a .ends .now) (a .ranked .now)) (a .rank) (b .pre .1 .0 .capitals) (omega (arith, z, c .before .if1 .left)) _ (c .ranked-sequence .ensures)))
 
 returns-2 : tie.Need-returns-2
 returns-2 c =

@@ -25,11 +25,11 @@ loop-holds c = rows-none _ _ _ _ _ _ (omega arith)
 block-end-requires : tie.Need-block-end-requires Inv-loop μ-loop
 block-end-requires c κs = search needs
 
-last-bases-right-requires : tie.Need-last-bases-right-requires Inv-loop μ-loop
-last-bases-right-requires c κs = (c .before .before .before .before .table .ensures, (c .before .before .before .before .before .before .before .before .before .before .before .pre, c .before .block-end .ensures))
+block-ends-right-requires : tie.Need-block-ends-right-requires Inv-loop μ-loop
+block-ends-right-requires c κs = (c .before .before .before .before .table .ensures, (c .before .before .before .before .before .before .before .before .before .before .before .pre, c .before .block-end .ensures))
 
 returns : tie.Need-returns Inv-loop μ-loop
-returns c = rows-denied _ _ _ _ _ (c .before .last-bases-right .ensures) (not-true _ (c .if1 .taken))
+returns c = rows-denied _ _ _ _ _ (c .before .block-ends-right .ensures) (not-true _ (c .if1 .taken))
 
 block-right-requires : tie.Need-block-right-requires Inv-loop μ-loop
 block-right-requires c κs = (c .before .before .before .before .before .before .before .table .ensures, (c .before .before .before .before .before .before .before .before .before .before .before .before .before .before .pre, c .before .before .before .before .block-end .ensures))
@@ -55,7 +55,7 @@ rows-right-spec =
     table-requires
     loop-holds
     block-end-requires
-    last-bases-right-requires
+    block-ends-right-requires
     returns
     block-right-requires
     returns-2

@@ -1,68 +1,15 @@
--- `seeds::keys::key_at` meets its contract. The invariant: the key of the first i bases.
+-- `seeds::keys::key_at` meets its contract: nothing is keyed yet.
 -- Assumes nothing.
-use native.Mathlib.Omega.{arith}
-use Prim.Native.Nat.{_-_}
-use Rattle.bases.specs.Read.{oriented}
-use Rattle.seeds.proofs.Keying.{seed-end, Digits, digits-start, digits-next, digits-end}
+use borrow.Author.Needs.{needs}
+use Rattle.seeds.proofs.Keying.{digits-start}
 use Rattle.seeds.proofs.keys.key_at.Statement.{statement}
 use Rattle.seeds.proofs.keys.key_at.Tie as tie
 
-abbrev Inv-loop : tie.InvT-loop
-Inv-loop table sequence strand q start key₀ i₀ key i = Digits (oriented strand sequence) start q key i
+key-from-requires : tie.Need-key-from-requires
+key-from-requires c κs = let s = c .before in (s .pre .0, (s .pre .1, digits-start _ _ _))
 
-abbrev μ-loop : tie.MeasureT-loop
-μ-loop table sequence strand q start key₀ i₀ key i = q - i
-
-loop-holds : tie.Need-loop-holds Inv-loop μ-loop
-loop-holds c = digits-start _ _ _
-
-add-oriented-code : tie.Need-add-oriented-code Inv-loop μ-loop
-add-oriented-code c = omega (arith, seed-end _ _ _ (c .before .before .before .pre .1))
-
-oriented-code-requires : tie.Need-oriented-code-requires Inv-loop μ-loop
-oriented-code-requires c κs = c .before .before .before .pre .0
-
-mul-key : tie.Need-mul-key Inv-loop μ-loop
-mul-key c =
-    let s = c .before .before .before .before in
-    let d = digits-next (s .args .strand) (s .args .sequence .now) (s .args .start) (s .args .q) _ _ (s .pre .1) (c .before .before .loop .inv) (c .before .loop-test .taken) _ (c .oriented-code .ensures) in
-    omega (arith, d .room, d .small)
-
-add-key : tie.Need-add-key Inv-loop μ-loop
-add-key c =
-    let s = c .before .before .before .before in
-    let d = digits-next (s .args .strand) (s .args .sequence .now) (s .args .start) (s .args .q) _ _ (s .pre .1) (c .before .before .loop .inv) (c .before .loop-test .taken) _ (c .oriented-code .ensures) in
-    omega (arith, d .room, d .small)
-
-add-i : tie.Need-add-i Inv-loop μ-loop
-add-i c = omega arith
-
-loop-less : tie.Need-loop-less Inv-loop μ-loop
-loop-less c = omega arith
-
-loop-again : tie.Need-loop-again Inv-loop μ-loop
-loop-again c =
-    let s = c .before .before .before .before in
-    let d = digits-next (s .args .strand) (s .args .sequence .now) (s .args .start) (s .args .q) _ _ (s .pre .1) (c .before .before .loop .inv) (c .before .loop-test .taken) _ (c .oriented-code .ensures) in
-    record { inside = omega (arith, d .next .inside); digits = omega (arith, d .next .digits) }
-
-returns : tie.Need-returns Inv-loop μ-loop
-returns c =
-    let s = c .before .before .before in
-    digits-end (s .args .strand) (s .args .sequence .now) (s .args .start) (s .args .q) _ _ (s .pre .1) (c .before .loop .inv) (c .loop-test .left)
+returns : tie.Need-returns
+returns c = search needs
 
 pub key-at-spec : {M : Type 1} → statement M
-key-at-spec =
-    tie.close
-    (tie.spec
-    Inv-loop
-    μ-loop
-    loop-holds
-    add-oriented-code
-    oriented-code-requires
-    mul-key
-    add-key
-    add-i
-    loop-less
-    loop-again
-    returns)
+key-at-spec = tie.close (tie.spec key-from-requires returns)
