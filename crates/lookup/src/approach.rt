@@ -2,7 +2,6 @@
 ghost use Rattle.lookup.specs.Range.{Rising};
 use crate::lookup::NOWHERE;
 use crate::lookup::expected_place;
-use crate::lookup::keys_between;
 use crate::lookup::probe_after;
 use crate::lookup::probe_before;
 use crate::lookup::typical_gap;
@@ -28,9 +27,8 @@ pub fn nearer(keys: &[u64], key: u64, at: usize) -> usize
     }
     let gap = typical_gap(keys);
     let here = posting_key(keys, at);
-    let by = keys_between(here, key, gap);
     if here < key {
-        return probe_after(at, keys.len(), by, 0);
+        return probe_after(at, keys.len(), here, key, gap, 0);
     }
-    probe_before(0, at + 1, by, 0)
+    probe_before(0, at + 1, here, key, gap, 0)
 }

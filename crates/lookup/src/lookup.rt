@@ -15,17 +15,22 @@ pub struct Range {
     pub end: usize,
 }
 
-// A place from low up to high: `by` and a step behind low, or the last one; the middle once nine steps were made.
-pub(crate) fn probe_after(low: usize, high: usize, by: u64, step: u64) -> usize
+// A step so long that a search halves what is left.
+const HALVING: u64 = 256;
+
+// A place from low up to high: as far behind low as two keys are thought to be apart, and a step more, or the last one; or the middle.
+pub(crate) fn probe_after(low: usize, high: usize, a: u64, b: u64, gap: u64, step: u64) -> usize
+    requires { ⌜ 1 ≤ gap ⌝ }
     ensures { λ r. ⌜ Within low high r ⌝ }
 {
     if high <= low {
         return low;
     }
-    let room = (high - low) as u64;
-    if 256 <= step {
+    if HALVING <= step {
         return low + (high - low) / 2;
     }
+    let room = (high - low) as u64;
+    let by = keys_between(a, b, gap);
     if room <= by {
         return high - 1;
     }
@@ -36,16 +41,18 @@ pub(crate) fn probe_after(low: usize, high: usize, by: u64, step: u64) -> usize
 }
 
 // The same in front of high.
-pub(crate) fn probe_before(low: usize, high: usize, by: u64, step: u64) -> usize
+pub(crate) fn probe_before(low: usize, high: usize, a: u64, b: u64, gap: u64, step: u64) -> usize
+    requires { ⌜ 1 ≤ gap ⌝ }
     ensures { λ r. ⌜ Within low high r ⌝ }
 {
     if high <= low {
         return low;
     }
-    let room = (high - low) as u64;
-    if 256 <= step {
+    if HALVING <= step {
         return low + (high - low) / 2;
     }
+    let room = (high - low) as u64;
+    let by = keys_between(a, b, gap);
     if room <= by {
         return low;
     }
@@ -55,16 +62,16 @@ pub(crate) fn probe_before(low: usize, high: usize, by: u64, step: u64) -> usize
     high - 1 - (by + step) as usize
 }
 
-// The step behind this one: twice as long, up to a bound.
+// The step behind this one: twice as long, up to one that halves.
 fn longer(step: u64) -> u64 {
-    if 256 <= step {
+    if HALVING <= step {
         return step;
     }
     step * 2 + 1
 }
 
 // How many keys are thought to stand between two.
-pub(crate) fn keys_between(a: u64, b: u64, gap: u64) -> u64
+fn keys_between(a: u64, b: u64, gap: u64) -> u64
     requires { ⌜ 1 ≤ gap ⌝ }
 {
     if a <= b {
@@ -74,25 +81,32 @@ pub(crate) fn keys_between(a: u64, b: u64, gap: u64) -> u64
 }
 
 // The first place from `from` on whose key is not below a bound, or the end. The search begins at `first`; keys are thought
-// to be `gap` apart.
-fn lower_bound(keys: &[u64], bound: u64, from: usize, first: usize, gap: u64) -> usize
+// to be `gap` apart. Behind the first probe it makes steps from the one that is told on.
+fn lower_bound(
+    keys: &[u64],
+    bound: u64,
+    from: usize,
+    first: usize,
+    gap: u64,
+    step: u64,
+) -> usize
     requires { ⌜ SearchFrom (now keys) bound from first gap ⌝ }
     ensures { λ r. ⌜ BoundAt (old keys) bound r ⌝ }
 {
     let mut low = from;
     let mut high = keys.len();
     let mut mid = first;
-    let mut step = 0;
+    let mut next = step;
     while low < high {
-        let near = step;
-        step = longer(step);
+        let near = next;
+        next = longer(next);
         let key = posting_key(keys, mid);
         if key < bound {
             low = mid + 1;
-            mid = probe_after(low, high, keys_between(key, bound, gap), near);
+            mid = probe_after(low, high, key, bound, gap, near);
         } else {
             high = mid;
-            mid = probe_before(low, high, keys_between(bound, key, gap), near);
+            mid = probe_before(low, high, bound, key, gap, near);
         }
     }
     low
@@ -141,6 +155,25 @@ fn first_probe(keys: &[u64], key: u64, gap: u64, near: usize) -> usize
     expected_place(keys, key, gap)
 }
 
+// The first step of a search: none, or one that halves where the keys crowd together, so that nothing can be expected: the middle one of
+// them is in the first or the last quarter of their range.
+fn first_step(keys: &[u64]) -> u64
+    requires { ⌜ Rising (now keys) ⌝ }
+    requires { ⌜ 0 < length (now keys) ⌝ }
+{
+    let first = posting_key(keys, 0);
+    let middle = posting_key(keys, keys.len() / 2);
+    let last = posting_key(keys, keys.len() - 1);
+    let quarter = (last - first) / 4;
+    if middle < first + quarter {
+        return HALVING;
+    }
+    if last - quarter < middle {
+        return HALVING;
+    }
+    0
+}
+
 // Where the postings of a key stand; the search for them begins near a place that is told.
 pub fn posting_range(keys: &[u64], key: u64, near: usize) -> Range
     requires { ⌜ Rising (now keys) ⌝ }
@@ -151,7 +184,7 @@ pub fn posting_range(keys: &[u64], key: u64, near: usize) -> Range
     }
     let gap = typical_gap(keys);
     let first = first_probe(keys, key, gap, near);
-    let start = lower_bound(keys, key, 0, first, gap);
+    let start = lower_bound(keys, key, 0, first, gap, first_step(keys));
     if key == u64::MAX {
         return Range {
             start,
@@ -160,6 +193,6 @@ pub fn posting_range(keys: &[u64], key: u64, near: usize) -> Range
     }
     Range {
         start,
-        end: lower_bound(keys, key + 1, start, start, gap),
+        end: lower_bound(keys, key + 1, start, start, gap, 0),
     }
 }

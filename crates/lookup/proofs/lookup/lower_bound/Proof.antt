@@ -8,10 +8,10 @@ use Rattle.lookup.proofs.lookup.lower_bound.Statement.{statement}
 use Rattle.lookup.proofs.lookup.lower_bound.Tie as tie
 
 abbrev Inv-loop : tie.InvT-loop
-Inv-loop keys bound from first gap low₀ high₀ mid₀ step₀ low high mid step = Probing keys bound low high mid
+Inv-loop keys bound from first gap step low₀ high₀ mid₀ next₀ low high mid next = Probing keys bound low high mid
 
 abbrev μ-loop : tie.MeasureT-loop
-μ-loop keys bound from first gap low₀ high₀ mid₀ step₀ low high mid step = high - low
+μ-loop keys bound from first gap step low₀ high₀ mid₀ next₀ low high mid next = high - low
 
 loop-holds : tie.Need-loop-holds Inv-loop μ-loop
 loop-holds c =
@@ -33,47 +33,41 @@ add-low c =
     let w = at .inv .within (c .before .before .before .loop-test .taken) in
     omega (arith, w .1, at .inv .between .inside)
 
-keys-between-requires : tie.Need-keys-between-requires Inv-loop μ-loop
-keys-between-requires c κs = c .before .before .before .before .before .before .pre .apart
-
 probe-after-requires : tie.Need-probe-after-requires Inv-loop μ-loop
-probe-after-requires c κs = search needs
+probe-after-requires c κs = c .before .before .before .before .before .before .pre .apart
 
 loop-less : tie.Need-loop-less Inv-loop μ-loop
 loop-less c =
-    let at = c .before .before .before .before .before .before .loop in
-    let w = at .inv .within (c .before .before .before .before .before .loop-test .taken) in
+    let at = c .before .before .before .before .before .loop in
+    let w = at .inv .within (c .before .before .before .before .loop-test .taken) in
     omega (arith, w .0, w .1)
 
 loop-again : tie.Need-loop-again Inv-loop μ-loop
 loop-again c =
-    let s = c .before .before .before .before .before .before .before .before in
-    let at = c .before .before .before .before .before .before .loop in
-    let w = at .inv .within (c .before .before .before .before .before .loop-test .taken) in
+    let s = c .before .before .before .before .before .before .before in
+    let at = c .before .before .before .before .before .loop in
+    let w = at .inv .within (c .before .before .before .before .loop-test .taken) in
     record {
-      between = go-higher (s .args .keys .now) (s .args .bound) _ _ (at .inv .between) (s .pre .rising) (at .mid) (w .0) (w .1) _ (c .before .before .before .posting-key .ensures) (omega (arith, c .before .before .if1 .taken));
+      between = go-higher (s .args .keys .now) (s .args .bound) _ _ (at .inv .between) (s .pre .rising) (at .mid) (w .0) (w .1) _ (c .before .before .posting-key .ensures) (omega (arith, c .before .if1 .taken));
       within = c .probe-after .ensures;
     }
 
-keys-between-requires-2 : tie.Need-keys-between-requires-2 Inv-loop μ-loop
-keys-between-requires-2 c κs = c .before .before .before .before .before .before .pre .apart
-
 probe-before-requires : tie.Need-probe-before-requires Inv-loop μ-loop
-probe-before-requires c κs = search needs
+probe-before-requires c κs = c .before .before .before .before .before .before .pre .apart
 
 loop-less-2 : tie.Need-loop-less-2 Inv-loop μ-loop
 loop-less-2 c =
-    let at = c .before .before .before .before .before .before .loop in
-    let w = at .inv .within (c .before .before .before .before .before .loop-test .taken) in
+    let at = c .before .before .before .before .before .loop in
+    let w = at .inv .within (c .before .before .before .before .loop-test .taken) in
     omega (arith, w .0, w .1)
 
 loop-again-2 : tie.Need-loop-again-2 Inv-loop μ-loop
 loop-again-2 c =
-    let s = c .before .before .before .before .before .before .before .before in
-    let at = c .before .before .before .before .before .before .loop in
-    let w = at .inv .within (c .before .before .before .before .before .loop-test .taken) in
+    let s = c .before .before .before .before .before .before .before in
+    let at = c .before .before .before .before .before .loop in
+    let w = at .inv .within (c .before .before .before .before .loop-test .taken) in
     record {
-      between = go-lower (s .args .keys .now) (s .args .bound) _ _ (at .inv .between) (s .pre .rising) (at .mid) (w .0) (w .1) _ (c .before .before .before .posting-key .ensures) (omega (arith, c .before .before .if1 .left));
+      between = go-lower (s .args .keys .now) (s .args .bound) _ _ (at .inv .between) (s .pre .rising) (at .mid) (w .0) (w .1) _ (c .before .before .posting-key .ensures) (omega (arith, c .before .if1 .left));
       within = c .probe-before .ensures;
     }
 
@@ -92,11 +86,9 @@ lower-bound-spec =
     longer-requires
     posting-key-requires
     add-low
-    keys-between-requires
     probe-after-requires
     loop-less
     loop-again
-    keys-between-requires-2
     probe-before-requires
     loop-less-2
     loop-again-2
