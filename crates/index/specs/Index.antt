@@ -12,7 +12,7 @@ use Rattle.lists.specs.Cut.{cut, endsWithin}
 use Rattle.promises.specs.Slice.{Slice, old}
 use Rattle.promises.specs.Refusal.{unless, _orElse_}
 use Rattle.bases.specs.Read.{capitals}
-use Rattle.catalogue.specs.Catalogue.{Catalogue, Target, Valid, catalogueRefusal, mapped, maxTargets, maxBases}
+use Rattle.catalogue.specs.Catalogue.{Catalogue, Target, catalogueRefusal, mapped, maxTargets, maxBases}
 use Rattle.columns.specs.Posting.{Posting, earlier, row}
 use Rattle.seeds.specs.Key.{keyOf, maxSeed}
 use Rattle.seeds.specs.Seeds.{seeds, keysOf, ranksOf, positionsOf}

@@ -1,14 +1,13 @@
 -- A turned read has the groups of the read, on the other strands.
 -- Assumes nothing.
 use mathlib.Core.Path.{_≡_, refl, sym, ap, _∙_}
-use mathlib.Core.Bool.{Bool, true, false}
-use mathlib.Core.Logic.{_⊎_, inl, inr}
+use mathlib.Core.Logic.{inl, inr}
 use mathlib.Core.List.{List, [], _∷_, map}
 use Prim.Native.Nat.{ℕ, zero, suc, _-_, _<_}
 use native.Mathlib.Omega.{arith}
 use lib.ListN.{length, getD}
 use Rattle.lists.specs.Member.{_∈_, Distinct}
-use Rattle.lists.specs.Order.{Ascending, Apart}
+use Rattle.lists.specs.Order.{Ascending}
 use Rattle.lists.specs.Sort.{sort}
 use Rattle.lists.specs.Same.{same}
 use Rattle.lists.specs.Cut.{window}
@@ -17,7 +16,7 @@ use Rattle.lists.proofs.Order.{ascending-unique, distinct-apart, later-differs}
 use Rattle.lists.proofs.Sort.{sort-ascending, ∈-sort, sort-∈}
 use Rattle.bases.specs.Read.{folded, oriented, reverseComplement}
 use Rattle.bases.proofs.Turning.{reverse-complement-twice, length-reverse-complement, folded-turned}
-use Rattle.places.specs.Place.{Place, Fits, place, before, matches, groups, swapped}
+use Rattle.places.specs.Place.{Place, before, matches, groups, swapped}
 use Rattle.places.proofs.Placing.{before-order, before-total, place-eq, groups-∈, ∈-groups, groups-ascending}
 
 pub swapped-twice : (p : Place) → p .strand < 2 → swapped (swapped p) ≡ p

@@ -1,6 +1,6 @@
 -- What the choice of a seed is lent: its postings are seeds, and its bases letters.
 -- Assumes nothing.
-use mathlib.Core.Path.{_≡_, refl, sym, ap, subst, _∙_}
+use mathlib.Core.Path.{_≡_, sym, ap, subst, _∙_}
 use mathlib.Core.Bool.{true}
 use mathlib.Core.List.{List, [], map}
 use Prim.Native.Nat.{ℕ, zero, suc, _+_, _-_, _≤_, _<_}
@@ -10,7 +10,7 @@ use Rattle.lists.specs.Cut.{window}
 use Rattle.lists.proofs.Every.{every-at}
 use Rattle.lists.proofs.Member.{getD-∈}
 use Rattle.lists.proofs.Places.{getD-map}
-use Rattle.bases.specs.Base.{codeOf, isCapital, upperOf}
+use Rattle.bases.specs.Base.{isCapital, upperOf}
 use Rattle.bases.specs.Read.{letters, capitals, folded, oriented}
 use Rattle.bases.proofs.Bytes.{letter-low, letter-capital}
 use Rattle.bases.proofs.Turning.{letters-turned, length-oriented}
@@ -18,7 +18,7 @@ use Rattle.columns.specs.Posting.{Posting, posting}
 use Rattle.seeds.specs.Key.{keyOf}
 use Rattle.seeds.specs.Window.{starts}
 use Rattle.lookup.specs.Range.{Rising, RangeOf}
-use Rattle.index.specs.Index.{indexOf, rankedSequences, Lent, Indexed}
+use Rattle.index.specs.Index.{indexOf, rankedSequences}
 use Rattle.index.proofs.Hits.{index-rising}
 use Rattle.index.proofs.Indexing.{index-∈-seed}
 use Rattle.index.proofs.Sequencing.{ranked-many}

@@ -1,7 +1,7 @@
 -- Four capitals at once: their codes out of the bytes of a word, and the key that a product puts together.
 -- Assumes nothing.
-use mathlib.Core.Path.{_≡_, refl, sym, ap, _∙_}
-use mathlib.Core.Bool.{true, false}
+use mathlib.Core.Path.{_≡_, refl, ap, _∙_}
+use mathlib.Core.Bool.{true}
 use mathlib.Core.List.{List, [], _∷_}
 use Prim.Native.Nat.{ℕ, suc, _+_, _*_, _/_, _%_, _^_, _<_, _≤_}
 use native.Mathlib.Omega.{arith}
@@ -10,9 +10,9 @@ use lib.Seq.{drop-cons}
 use lib.ListN.{length, getD}
 use lib.Dec.{eqb}
 use lib.Pow.{high, low as low-part}
-use lib.Bits.{bitAnd, and-block, and-le-r}
+use lib.Bits.{bitAnd, and-block}
 use borrow.Author.Tests.{eqb-true}
-use Rattle.lists.proofs.Cases.{by-test, clash, and-true}
+use Rattle.lists.proofs.Cases.{by-test, clash}
 use Rattle.lists.proofs.Cut.{length-window}
 use Rattle.lists.proofs.Every.{every-at}
 use Rattle.bases.specs.Base.{codeOf, isCapital}

@@ -1,17 +1,13 @@
 -- Lists placed in a buffer, one after the other, and how many seeds there are.
 -- Assumes nothing.
 use mathlib.Core.Path.{_≡_, refl, sym, ap, ap₂, _∙_}
-use mathlib.Core.List.{List, [], _∷_, _++_, map, map-append, append-assoc, append-nil}
+use mathlib.Core.List.{List, [], _∷_, _++_, append-assoc, append-nil}
 use Prim.Native.Nat.{ℕ, zero, suc, _+_, _-_, _<_, _≤_}
 use native.Mathlib.Omega.{arith}
-use native.Mathlib.Numerals.{add-one}
 use native.Mathlib.Nat.{add-zero}
-use lib.ListN.{length, getD, take, drop, set, length-append, length-drop, length-map, take-append-drop}
+use lib.ListN.{length, getD, take, drop, set, length-append, length-drop, take-append-drop}
 use lib.Seq.{drop-cons, set-at, append-snoc, length-take-le, take-at, drop-at, drop-drop}
-use Rattle.columns.specs.Posting.{Posting, posting}
-use Rattle.seeds.specs.Window.{windowOf}
-use Rattle.seeds.specs.Key.{keyOf}
-use Rattle.seeds.specs.Seeds.{seedAt, seedsFrom, placed, Stored, Room}
+use Rattle.seeds.specs.Seeds.{seedsFrom, placed}
 
 -- ---- one buffer
 

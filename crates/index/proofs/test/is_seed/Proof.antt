@@ -5,7 +5,6 @@ use mathlib.Core.Path.{_∙_}
 use Rattle.index.specs.Index.{rankedSequences}
 use Rattle.index.proofs.Sequencing.{ranked-many}
 use Rattle.index.proofs.Testing.{no-rank, some-rank, rank-capitals}
-use borrow.Author.Needs.{needs}
 use Rattle.index.proofs.test.is_seed.Statement.{statement}
 use Rattle.index.proofs.test.is_seed.Tie as tie
 

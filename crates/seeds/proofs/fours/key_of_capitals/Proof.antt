@@ -1,8 +1,7 @@
 -- `seeds::fours::key_of_capitals` meets its contract: the numbers on the way fit, and the product has the key.
 -- Assumes nothing.
 use native.Mathlib.Omega.{arith}
-use lib.Bits.{and-le-r}
-use Rattle.seeds.proofs.Capitals.{word, word-small, codes-small, joined}
+use Rattle.seeds.proofs.Capitals.{word-small, codes-small, joined}
 use Rattle.seeds.proofs.fours.key_of_capitals.Statement.{statement}
 use Rattle.seeds.proofs.fours.key_of_capitals.Tie as tie
 

@@ -4,7 +4,7 @@ use native.Mathlib.Omega.{arith}
 use Prim.Native.Nat.{_-_}
 use Rattle.bases.specs.Read.{oriented}
 use Rattle.seeds.specs.Key.{KeyBegun}
-use Rattle.seeds.proofs.Keying.{seed-end, digits-start, digits-next, digits-end}
+use Rattle.seeds.proofs.Keying.{seed-end, digits-next, digits-end}
 use Rattle.seeds.proofs.keys.key_from.Statement.{statement}
 use Rattle.seeds.proofs.keys.key_from.Tie as tie
 

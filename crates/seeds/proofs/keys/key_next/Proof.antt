@@ -4,7 +4,6 @@ use native.Mathlib.Omega.{arith}
 use Prim.Native.Nat.{_+_}
 use Rattle.bases.specs.Read.{oriented}
 use Rattle.seeds.proofs.Keying.{Step, step, seed-end, seed-oriented}
-use borrow.Author.Needs.{needs}
 use Rattle.seeds.proofs.keys.key_next.Statement.{statement}
 use Rattle.seeds.proofs.keys.key_next.Tie as tie
 use Rattle.seeds.proofs.keys.key_next.Reads as reads
