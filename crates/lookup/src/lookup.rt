@@ -82,14 +82,7 @@ fn keys_between(a: u64, b: u64, gap: u64) -> u64
 
 // The first place from `from` on whose key is not below a bound, or the end. The search begins at `first`; keys are thought
 // to be `gap` apart. Behind the first probe it makes steps from the one that is told on.
-fn lower_bound(
-    keys: &[u64],
-    bound: u64,
-    from: usize,
-    first: usize,
-    gap: u64,
-    step: u64,
-) -> usize
+fn lower_bound(keys: &[u64], bound: u64, from: usize, first: usize, gap: u64, step: u64) -> usize
     requires { ⌜ SearchFrom (now keys) bound from first gap ⌝ }
     ensures { λ r. ⌜ BoundAt (old keys) bound r ⌝ }
 {
