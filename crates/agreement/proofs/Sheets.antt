@@ -2,11 +2,11 @@
 -- Assumes nothing.
 use mathlib.Core.Path.{_≡_, refl, sym, ap, ap₂, subst, _∙_}
 use mathlib.Core.Bool.{Bool, true, false, not}
-use mathlib.Core.Logic.{inl, inr}
+use mathlib.Core.Logic.{_↔_, inl, inr}
 use mathlib.Core.List.{List, [], _∷_, map}
 use Prim.Native.Nat.{ℕ, zero, suc, _+_, _≤_, _<_}
 use native.Mathlib.Omega.{arith}
-use lib.ListN.{length, getD, replicate, length-map}
+use lib.ListN.{length, getD, replicate}
 use lib.Dec.{eqb, leb}
 use borrow.Author.Tests.{eq-eqb, not-true}
 use Rattle.lists.specs.Filter.{every}
@@ -17,7 +17,7 @@ use Rattle.lists.proofs.Every.{every-∈, every-append}
 use Rattle.lists.specs.Triple.{Triple}
 use Rattle.promises.specs.Refusal.{accepted}
 use Rattle.promises.proofs.Refusing.{or-none, outcome-accepted}
-use Rattle.catalogue.specs.Catalogue.{Catalogue, Target, Valid, targets, isMapped, mapped, suppliedPlaces}
+use Rattle.catalogue.specs.Catalogue.{Catalogue, Target, Valid, targets, isMapped, suppliedPlaces}
 use Rattle.index.specs.Index.{mappedSequences}
 use Rattle.indexed_mapper.specs.Match.{rankOf}
 use Rattle.ledger.specs.Booking.{Booked, Counters, bookedAll, emptyLedger, emptyCounters, maxCounter, countable}
@@ -34,14 +34,14 @@ use Rattle.audit_rules.specs.declared.sheet.Status.the-variants as statuses
 use Rattle.audit_rules.specs.declared.sheet.PlacementTotals.{PlacementTotals}
 use Rattle.audit_rules.specs.declared.sheet.Sheet.{Sheet}
 use Rattle.audit_rules.specs.Settings.{Held, booksOf, rolesOf, statesShown}
-use Rattle.audit_rules.specs.Observing.{mateBooked}
 use Rattle.audit_rules.specs.Opening.{IndexLent, started, openingRefusal, openingHeld, opened}
 use Rattle.audit_rules.specs.Sheet.{shown, totalsOf, runStatus, sheetOf, roleShown, targetShown, finishRefusal, finishAnswer}
 use Rattle.audit_rules.specs.Run.{Call, after, history}
 use Rattle.audit_rules.proofs.Opening.{opening-passed, opening-number}
 use Rattle.audit_rules.proofs.Catalogues.{places-ranked, target-ranked}
-use Rattle.agreement.specs.Meaning.{SheetMeans}
-use Rattle.agreement.proofs.Booking.{shown-few, state-shown, read-bookable, settings-after, history-all}
+use Rattle.agreement.specs.Meaning.{isRefused, SheetMeans}
+use Rattle.agreement.proofs.Accepting.{not-refused}
+use Rattle.agreement.proofs.Booking.{shown-few, state-shown, mate-bookable, settings-after, history-all}
 use Rattle.agreement.proofs.Running.{after-books, after-countable}
 
 -- ---- roles, states, statuses
@@ -90,12 +90,9 @@ module _ (q offset : ℕ) (c : Catalogue) (lent : IndexLent) (s : Settings) (k :
   start-is : start ≡ started c s
   start-is = ap (λ n. opened n c s k) begun
 
-  ranked-many : length (mappedSequences c) ≡ length (suppliedPlaces c)
-  ranked-many = length-map (mapped c) _ ∙ sym (length-map (mapped c) _)
-
   bookable : (b : Booked) → b ∈ booked → Bookable (length (suppliedPlaces c)) b
   bookable = history-all q offset c s (Bookable (length (suppliedPlaces c)))
-      (λ way r. subst (λ n. Bookable n (mateBooked offset s (mappedSequences c) way r)) ranked-many (read-bookable offset s (mappedSequences c) way r)) start (ap (λ (h : Held). h .state .settings) start-is) xs
+      (mate-bookable c offset s) start (ap (λ (h : Held). h .state .settings) start-is) xs
 
   -- what the state and the counters count
   pub run-counts : Counts (suppliedPlaces c) booked (booksOf end)
@@ -170,6 +167,12 @@ module _ (q offset : ℕ) (c : Catalogue) (lent : IndexLent) (s : Settings) (k :
   -- so it is never refused 18
   pub never-apart : (lent′ : IndexLent) → finishRefusal q offset c lent′ end ≡ 18 → ⊥
   never-apart lent′ e = omega (arith, opening-number q offset c lent′ s (end .counters) .0, sym (finish-opens lent′) ∙ e)
+
+  -- it is accepted exactly where they pass
+  pub finish-accepted : (lent′ : IndexLent) → (openingRefusal q offset c lent′ s (end .counters) ≡ 0) ↔ (isRefused (finishAnswer q offset c lent′ end) ≡ false)
+  finish-accepted lent′ =
+      let o = not-refused (finishRefusal q offset c lent′ end) (sheetOf end) in
+      (λ e. o .0 (finish-opens lent′ ∙ e), λ e. sym (finish-opens lent′) ∙ o .1 e)
 
   -- an accepted one shows as many reads of a role, over its states, as were booked
   pub role-shown : (lent′ : IndexLent) (sheet : Sheet) → finishAnswer q offset c lent′ end ≡ accepted sheet → (role : ℕ) → role ∈ rolesOf (sheet .mode)

@@ -1,5 +1,7 @@
+pub mod Each
 pub mod Placements
 pub mod Meaning
 pub mod Twins
 pub mod Examples
 pub mod Made
+pub mod Promised
