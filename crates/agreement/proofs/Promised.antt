@@ -46,10 +46,10 @@ module _ (q offset : ℕ) (c : Catalogue) where
     made-means =
         let p = made-is-paper q offset c r made in
         let d : RunMeans q offset c (r .settings) (startOf r) (callsOf r) (answers q offset c (startOf r) (callsOf r)) (after q offset c (startOf r) (callsOf r)) (finishAnswer q offset c (r .lentAtEnd) (after q offset c (startOf r) (callsOf r))) =
-                subst (λ (h : Held). RunMeans q offset c (r .settings) h (callsOf r) (answers q offset c h (callsOf r)) (after q offset c h (callsOf r)) (finishAnswer q offset c (r .lentAtEnd) (after q offset c h (callsOf r))))
-                (sym (p .start)) (run-means (r .lent) (r .settings) (r .before) begun (callsOf r) (r .lentAtEnd)) in
+        subst (λ (h : Held). RunMeans q offset c (r .settings) h (callsOf r) (answers q offset c h (callsOf r)) (after q offset c h (callsOf r)) (finishAnswer q offset c (r .lentAtEnd) (after q offset c h (callsOf r))))
+        (sym (p .start)) (run-means (r .lent) (r .settings) (r .before) begun (callsOf r) (r .lentAtEnd)) in
         let e : RunMeans q offset c (r .settings) (startOf r) (callsOf r) (answers q offset c (startOf r) (callsOf r)) (endOf r) (finishAnswer q offset c (r .lentAtEnd) (endOf r)) =
-                subst (λ (h : Held). RunMeans q offset c (r .settings) (startOf r) (callsOf r) (answers q offset c (startOf r) (callsOf r)) h (finishAnswer q offset c (r .lentAtEnd) h)) (sym (p .held)) d in
+        subst (λ (h : Held). RunMeans q offset c (r .settings) (startOf r) (callsOf r) (answers q offset c (startOf r) (callsOf r)) h (finishAnswer q offset c (r .lentAtEnd) h)) (sym (p .held)) d in
         moved (r .settings) (startOf r) (callsOf r) (endOf r) (p .answered) (p .finished) e
       where
         moved : (s : Settings) (h : Held) (xs : List Call) (end : Held) {a a′ : List Answer} {o o′ : Outcome Sheet} → a ≡ a′ → o ≡ o′ → RunMeans q offset c s h xs a′ end o′ → RunMeans q offset c s h xs a end o

@@ -71,7 +71,7 @@ module _ (q offset : ℕ) (c : Catalogue) where
   pub spare-call : (h : Held) (xs : List Call) (x : Call) (ys : List Call) → isRefused (answerTo q offset c (after q offset c h xs) x .rows) ≡ true → CanBeLeftOut q offset c h xs x ys
   spare-call h xs x ys told =
       let e : next q offset c (after q offset c h xs) x ≡ after q offset c h xs =
-              refused-leaves q offset c (after q offset c h xs) x (λ z. clash told (not-refused (refusal q offset c (after q offset c h xs) x) _ .0 z)) in
+      refused-leaves q offset c (after q offset c h xs) x (λ z. clash told (not-refused (refusal q offset c (after q offset c h xs) x) _ .0 z)) in
       record {
         held = after-append h xs (x ∷ ys) ∙ ap (λ i. after q offset c i ys) e ∙ sym (after-append h xs ys);
         with-it = answers-append h xs (x ∷ ys) ∙ ap {B = List Answer} (λ i. answers q offset c h xs ++ answerTo q offset c (after q offset c h xs) x ∷ answers q offset c i ys) e;
