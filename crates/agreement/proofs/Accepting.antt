@@ -1,8 +1,8 @@
 -- A fragment is accepted exactly where no refusal of the table has its condition.
 -- Assumes nothing.
-use mathlib.Core.Path.{_≡_, refl, sym, ap, _∙_}
-use mathlib.Core.Bool.{Bool, true, false, not, _&&_, cond}
-use mathlib.Core.Logic.{_↔_, _⊎_, inl, inr}
+use mathlib.Core.Path.{_≡_, refl, ap}
+use mathlib.Core.Bool.{Bool, true, false, cond}
+use mathlib.Core.Logic.{_↔_, inl, inr}
 use mathlib.Core.List.{List, [], _∷_}
 use Prim.Native.Nat.{ℕ, zero, suc, _≤_, _<_}
 use native.Mathlib.Omega.{arith}
@@ -13,10 +13,10 @@ use Rattle.lists.specs.Member.{_∈_}
 use Rattle.lists.proofs.Cases.{by-test}
 use Rattle.lists.proofs.Every.{every-∈, ∈-every}
 use Rattle.lists.proofs.Same.{same-true, true-same}
-use Rattle.promises.specs.Refusal.{Outcome, unless, _orElse_, outcome}
+use Rattle.promises.specs.Refusal.{unless, _orElse_, outcome}
 use Rattle.promises.proofs.Refusing.{none-first, none-second, passed}
 use Rattle.bases.specs.Eligibility.{eligibility}
-use Rattle.catalogue.specs.Catalogue.{Catalogue, suppliedPlaces}
+use Rattle.catalogue.specs.Catalogue.{Catalogue}
 use Rattle.index.specs.Index.{mappedSequences}
 use Rattle.places.specs.Place.{maxRead}
 use Rattle.scan.specs.Entries.{entryCount}
@@ -26,9 +26,9 @@ use Rattle.ledger.specs.Booking.{Books, kept, maxCounter, countable}
 use Rattle.audit_rules.specs.declared.settings.LastOrdinal.{LastOrdinal}
 use Rattle.audit_rules.specs.declared.settings.LastOrdinal.the-variants as ordinals
 use Rattle.audit_rules.specs.declared.settings.Settings.{Settings}
-use Rattle.audit_rules.specs.Settings.{Held, rolesOf}
-use Rattle.audit_rules.specs.Opening.{wayOf, openingRefusal}
-use Rattle.audit_rules.specs.Observing.{MateRead, verdictRefusal, mateRefusal, mateGroups, mateRoom}
+use Rattle.audit_rules.specs.Settings.{Held}
+use Rattle.audit_rules.specs.Opening.{openingRefusal}
+use Rattle.audit_rules.specs.Observing.{MateRead, verdictRefusal, mateRefusal, mateRoom}
 use Rattle.audit_rules.specs.Fragment.{inOrder, rolesRight, firstOf, shareOf, testedRefusal, fragmentRefusal, fragmentBooks}
 use Rattle.audit_rules.specs.Run.{Call, answerTo}
 use Rattle.audit_rules.proofs.Checking.{fragment-checked}

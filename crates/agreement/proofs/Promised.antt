@@ -9,7 +9,7 @@ use Rattle.catalogue.specs.Catalogue.{Catalogue}
 use Rattle.audit_rules.specs.declared.settings.Settings.{Settings}
 use Rattle.audit_rules.specs.declared.sheet.Sheet.{Sheet}
 use Rattle.audit_rules.specs.Settings.{Held}
-use Rattle.audit_rules.specs.Opening.{none, openingRefusal, openingHeld, started, opened}
+use Rattle.audit_rules.specs.Opening.{openingRefusal, openingHeld, started, opened}
 use Rattle.audit_rules.specs.Sheet.{finishAnswer}
 use Rattle.audit_rules.specs.Run.{Call, Answer, answers, after}
 use Rattle.audit_rules.proofs.Opening.{opening-passed}

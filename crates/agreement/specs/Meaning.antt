@@ -17,7 +17,7 @@ use Rattle.index.specs.Index.{mappedSequences}
 use Rattle.places.specs.Place.{maxRead}
 use Rattle.scan.specs.Entries.{entriesOf, entryCount, cleared}
 use Rattle.answers.specs.Answer.{Row, row}
-use Rattle.indexed_mapper.specs.Match.{Lists, rankOf}
+use Rattle.indexed_mapper.specs.Match.{Lists}
 use Rattle.ledger.specs.Booking.{Booked, Counters, kept, maxCounter}
 use Rattle.ledger.specs.Balance.{countOf}
 use Rattle.ledger.specs.Counting.{Bookable, Counts, readsIn, readsOf, anyIndeterminate, placementsOn, singlesOn, multiOn}
@@ -84,12 +84,12 @@ pub record ReadsMean (offset : ℕ) (s : Settings) (c : Catalogue) (width : ℕ)
 
 -- a sheet, with the counters beside it, held against the reads that were booked: state counts; the status of the run and of every linear
 -- target, by which totals are available exactly where remap is on and no read was indeterminate; totals of a linear target by what was
--- booked on its rank, and of the run as their sums; a closed walk has its own status always
+-- booked on it, and of the run as their sums; a closed walk has its own status always
 pub record SheetMeans (c : Catalogue) (s : Settings) (bs : List Booked) (sheet : Sheet) (k : Counters) : Type 0 where
   pub states : (role state : ℕ) → role < 3 → state < 6 → countOf (sheet .table) role state ≡ readsIn role state bs
   pub linear :
       (t : Target) → t ∈ targets c → isMapped t ≡ true
-      → targetShown sheet k t ≡ shown (runStatus (s .remap) (anyIndeterminate bs)) (totalsOf (placementsOn (rankOf c (t .place)) bs) (singlesOn (rankOf c (t .place)) bs) (multiOn (rankOf c (t .place)) bs))
+      → targetShown sheet k t ≡ shown (runStatus (s .remap) (anyIndeterminate bs)) (totalsOf (placementsOn (suppliedPlaces c) (t .place) bs) (singlesOn (suppliedPlaces c) (t .place) bs) (multiOn (suppliedPlaces c) (t .place) bs))
   pub closed : (t : Target) → t ∈ targets c → isMapped t ≡ false → targetShown sheet k t ≡ record { status = statuses.ClosedUnsupported; totals = totals.Unavailable }
   pub run : sheet .run ≡ shown (runStatus (s .remap) (anyIndeterminate bs)) (totalsOf (sum (k .placements)) (sum (k .singles)) (sum (k .multi)))
 
@@ -110,7 +110,7 @@ pub data CallsMean (q offset : ℕ) (c : Catalogue) : Held → List Call → Lis
 -- book, what state and counters count, and what an accepted `finish` shows
 pub record RunMeans (q offset : ℕ) (c : Catalogue) (s : Settings) (h : Held) (xs : List Call) (answered : List Answer) (end : Held) (finish : Outcome Sheet) : Type 0 where
   pub calls : CallsMean q offset c h xs answered
-  pub counts : Counts (suppliedPlaces c) (history q offset c h xs) (booksOf end)
+  pub counts : Counts (length (targets c)) (suppliedPlaces c) (history q offset c h xs) (booksOf end)
   pub sheet : (sheet : Sheet) → finish ≡ accepted sheet → SheetMeans c s (history q offset c h xs) sheet (end .counters)
 
 -- its books are never apart; `finish` is accepted exactly where the opening's checks pass, and shows as many reads of a role, over its

@@ -1,6 +1,6 @@
 -- Two audits of one list of calls: the first by the index, the second at every start, which gets some reads turned round. Demand 3.
 use mathlib.Core.Path.{_≡_}
-use mathlib.Core.Bool.{Bool, true, false, cond}
+use mathlib.Core.Bool.{Bool, false, cond}
 use mathlib.Core.List.{List, map}
 use Prim.Native.Nat.{ℕ, _*_, _≤_}
 use Rattle.lists.specs.Cut.{window}

@@ -2,10 +2,8 @@
 -- Assumes nothing.
 use mathlib.Core.Path.{_≡_, refl, sym, ap, ap₂, subst, _∙_}
 use mathlib.Core.Bool.{Bool, true, false, _&&_}
-use mathlib.Core.Logic.{_↔_}
 use mathlib.Core.List.{List, [], _∷_, map}
-use Prim.Native.Nat.{ℕ, zero, suc, _*_, _<_, _≤_}
-use native.Mathlib.Omega.{arith}
+use Prim.Native.Nat.{ℕ, _*_, _≤_}
 use lib.ListN.{length, take, length-map}
 use lib.Seq.{take-at}
 use lib.Dec.{ltb}
@@ -30,7 +28,7 @@ use Rattle.candidates.proofs.Candidates.{comparable-fewer}
 use Rattle.scan.specs.Entries.{entriesOf, entryCount, cleared}
 use Rattle.scan.proofs.Going.{length-entries}
 use Rattle.index_search.specs.Work.{work, scanWork, Way, byIndex, plain, workBy}
-use Rattle.answers.specs.Answer.{Row, answerOf, stateOf, listed, mappedRow, roomRefusal}
+use Rattle.answers.specs.Answer.{Row, answerOf, listed, mappedRow, roomRefusal}
 use Rattle.search.specs.Answered.{SearchAnswered}
 use Rattle.search.proofs.Listed.{row-groups}
 use Rattle.index_search.specs.declared.work.MappingWork.{MappingWork}
