@@ -15,7 +15,7 @@ use Rattle.audit_rules.specs.Run.{Call, answerTo, answers, after}
 use Rattle.audit_rules.proofs.Opening.{opening-passed}
 use Rattle.agreement.specs.Meaning.{isRefused, RunMeans, Reconciled, CanBeLeftOut}
 use Rattle.agreement.specs.Twins.{TwinCall, indexedCall, plainCall, RefusedTogether, RunsAgree}
-use Rattle.agreement.specs.Made.{MadeRun, startOf, endOf, callsOf, answersOf, sheetOutcome, RunMade, RunIsPaper}
+use Rattle.agreement.specs.Made.{MadeRun, startOf, endOf, callsOf, answersOf, finishOf, RunMade, RunIsPaper}
 use Rattle.agreement.specs.Promised.{Opened, TwinRuns}
 use Rattle.agreement.proofs.Made.{made-is-paper}
 use Rattle.agreement.proofs.Running.{spare-call}
@@ -79,10 +79,10 @@ module _ (c : Catalogue) where
 
   -- Demand 2 of what the calls answer.
   pub demand-two-promised : (r : MadeRun) → RunMade auditSeed auditOffset c r → Opened r
-      → RunMeans auditSeed auditOffset c (r .settings) (startOf r) (callsOf r) (answersOf r) (endOf r) (sheetOutcome r)
+      → RunMeans auditSeed auditOffset c (r .settings) (startOf r) (callsOf r) (answersOf r) (endOf r) (finishOf r)
   demand-two-promised = made-means auditSeed auditOffset c
 
   -- Demand 3 of what the calls of both audits answer.
   pub demand-three-promised : (r r′ : MadeRun) (xs : List TwinCall) → RunMade auditSeed auditOffset c r → RunMade auditSeed auditOffset c r′ → Opened r → Opened r′ → TwinRuns r r′ xs
-      → RefusedTogether (answersOf r) (answersOf r′) → RunsAgree (r .settings) c xs (answersOf r) (answersOf r′) (endOf r) (endOf r′) (sheetOutcome r) (sheetOutcome r′)
+      → RefusedTogether (answersOf r) (answersOf r′) → RunsAgree (r .settings) c xs (answersOf r) (answersOf r′) (endOf r) (endOf r′) (finishOf r) (finishOf r′)
   demand-three-promised = made-agree auditSeed auditOffset c (omega arith)

@@ -2,25 +2,13 @@
 -- Assumes nothing.
 use mathlib.Core.Path.{_≡_, refl, ap, ap₂, _∙_}
 use mathlib.Core.List.{List, [], _∷_, map}
-use Prim.Native.Nat.{ℕ, zero, suc}
-use native.Mathlib.Omega.{arith}
-use Rattle.promises.specs.Refusal.{outcome}
+use Prim.Native.Nat.{ℕ}
 use Rattle.catalogue.specs.Catalogue.{Catalogue}
-use Rattle.audit_rules.specs.declared.calls.CallAnswer.{CallAnswer}
-use Rattle.audit_rules.specs.declared.calls.CallAnswer.the-variants as calls
-use Rattle.audit_rules.specs.declared.sheet.Sheet.{Sheet}
 use Rattle.audit_rules.specs.Settings.{Held}
-use Rattle.audit_rules.specs.Sheet.{sheetOf, finishRefusal}
 use Rattle.audit_rules.specs.Run.{Answer, answerTo, answers, after}
-use Rattle.audit_rules.specs.Calls.{callOutcome, sheetAfter, Audits}
-use Rattle.agreement.specs.Made.{MadeCall, callOf, answerOf, heldBy, finishOutcome, AllKept, heldBehind, MadeRun, startOf, endOf, RunMade, RunIsPaper}
-
--- what `finish` answers, by its refusal
-finish-told : (n : ℕ) (h : Held) (a : CallAnswer) (sheet : Sheet) → callOutcome a ≡ outcome n tt → sheet ≡ sheetAfter n h → finishOutcome a sheet ≡ outcome n (sheetOf h)
-finish-told zero h calls.Accepted sheet e f = (cc)
-finish-told zero h (calls.Refused m) sheet e f = absurd (let z : _≡_ {A = ℕ} 0 1 = cc in omega arith)
-finish-told (suc n) h calls.Accepted sheet e f = absurd (let z : _≡_ {A = ℕ} 0 1 = cc in omega arith)
-finish-told (suc n) h (calls.Refused m) sheet e f = (cc)
+use Rattle.audit_rules.specs.Calls.{Audits}
+use Rattle.audit_rules.proofs.Finishing.{finish-outcome}
+use Rattle.agreement.specs.Made.{MadeCall, callOf, answerOf, heldBy, AllKept, heldBehind, MadeRun, startOf, endOf, RunMade, RunIsPaper}
 
 module _ (q offset : ℕ) (c : Catalogue) where
   answer-kept : (h : Held) (x : MadeCall) → Audits q offset c (x .lent) h (x .fragment) (x .entries) (x .result) (x .counters) (x .left) → answerOf x ≡ answerTo q offset c h (callOf x)
@@ -42,6 +30,6 @@ module _ (q offset : ℕ) (c : Catalogue) where
         start = m .opens .held;
         answered = answers-kept (startOf r) (r .calls) (m .calls);
         held = held-kept (startOf r) (r .calls) (m .calls);
-        finished = finish-told (finishRefusal q offset c (r .lentAtEnd) (endOf r)) (endOf r) (r .finish .answer) (r .finish .sheet) (m .finishes .answer) (m .finishes .sheet);
+        finished = finish-outcome q offset c (r .lentAtEnd) (endOf r) (r .finish) (m .finishes);
         sheet = m .finishes .sheet;
       }

@@ -15,7 +15,7 @@ use Rattle.audit_rules.specs.Run.{Call, Answer, answers, after}
 use Rattle.audit_rules.proofs.Opening.{opening-passed}
 use Rattle.agreement.specs.Meaning.{RunMeans}
 use Rattle.agreement.specs.Twins.{TwinCall, indexedCall, plainCall, refusals, RefusedTogether, RunsAgree}
-use Rattle.agreement.specs.Made.{MadeRun, startOf, endOf, callsOf, answersOf, sheetOutcome, RunMade}
+use Rattle.agreement.specs.Made.{MadeRun, startOf, endOf, callsOf, answersOf, finishOf, RunMade}
 use Rattle.agreement.specs.Promised.{Opened, TwinRuns}
 use Rattle.agreement.proofs.Made.{made-is-paper}
 use Rattle.agreement.proofs.Sheets.{run-counts, sheet-means}
@@ -42,7 +42,7 @@ module _ (q offset : ℕ) (c : Catalogue) where
     start-is : startOf r ≡ started c (r .settings)
     start-is = made-is-paper q offset c r made .start ∙ ap (λ n. opened n c (r .settings) (r .before)) begun
 
-    pub made-means : RunMeans q offset c (r .settings) (startOf r) (callsOf r) (answersOf r) (endOf r) (sheetOutcome r)
+    pub made-means : RunMeans q offset c (r .settings) (startOf r) (callsOf r) (answersOf r) (endOf r) (finishOf r)
     made-means =
         let p = made-is-paper q offset c r made in
         let d : RunMeans q offset c (r .settings) (startOf r) (callsOf r) (answers q offset c (startOf r) (callsOf r)) (after q offset c (startOf r) (callsOf r)) (finishAnswer q offset c (r .lentAtEnd) (after q offset c (startOf r) (callsOf r))) =
@@ -62,7 +62,7 @@ module _ (q offset : ℕ) (c : Catalogue) where
   moved-twice s xs e f i j k l d = rw (e, f, i, j, k, l) d
 
   pub made-agree : 1 ≤ q → (r r′ : MadeRun) (xs : List TwinCall) → RunMade q offset c r → RunMade q offset c r′ → Opened r → Opened r′ → TwinRuns r r′ xs → RefusedTogether (answersOf r) (answersOf r′)
-      → RunsAgree (r .settings) c xs (answersOf r) (answersOf r′) (endOf r) (endOf r′) (sheetOutcome r) (sheetOutcome r′)
+      → RunsAgree (r .settings) c xs (answersOf r) (answersOf r′) (endOf r) (endOf r′) (finishOf r) (finishOf r′)
   made-agree some r r′ xs m m′ o o′ t together =
       let p = made-is-paper q offset c r m in
       let p′ = made-is-paper q offset c r′ m′ in

@@ -2,11 +2,9 @@
 use mathlib.Core.Path.{_≡_}
 use mathlib.Core.List.{List, [], _∷_, map}
 use Prim.Native.Nat.{ℕ}
-use Rattle.promises.specs.Refusal.{Outcome, refused, accepted, outcome}
+use Rattle.promises.specs.Refusal.{Outcome, outcome}
 use Rattle.catalogue.specs.Catalogue.{Catalogue}
 use Rattle.ledger.specs.Booking.{Counters}
-use Rattle.audit_rules.specs.declared.calls.CallAnswer.{CallAnswer}
-use Rattle.audit_rules.specs.declared.calls.CallAnswer.the-variants as calls
 use Rattle.audit_rules.specs.declared.calls.Opening.{Opening}
 use Rattle.audit_rules.specs.declared.calls.FragmentAudit.{FragmentAudit}
 use Rattle.audit_rules.specs.declared.calls.Finish.{Finish}
@@ -17,7 +15,7 @@ use Rattle.audit_rules.specs.Opening.{IndexLent, openingRefusal, openingHeld}
 use Rattle.audit_rules.specs.Fragment.{Fragment}
 use Rattle.audit_rules.specs.Sheet.{finishRefusal, finishAnswer}
 use Rattle.audit_rules.specs.Run.{Call, Answer, answers, after}
-use Rattle.audit_rules.specs.Calls.{callOutcome, fragmentOutcome, sheetAfter, Opens, Audits, Finishes}
+use Rattle.audit_rules.specs.Calls.{callOutcome, fragmentOutcome, finishOutcome, sheetAfter, Opens, Audits, Finishes}
 
 -- a fragment call: what it was lent, what it answered, and the counters and entries that it left
 pub record MadeCall : Type 0 where
@@ -36,11 +34,6 @@ answerOf x = record { rows = fragmentOutcome (x .result .answer); entries = x .l
 
 abbrev pub heldBy : MadeCall → Held
 heldBy x = record { state = x .result .state; counters = x .counters }
-
--- what `finish` answers: a refusal, or its sheet
-abbrev pub finishOutcome : CallAnswer → Sheet → Outcome Sheet
-finishOutcome (calls.Refused n) sheet = refused n
-finishOutcome calls.Accepted sheet = accepted sheet
 
 -- each call keeps its promise, and is lent state and counters as the one before it left them
 abbrev pub AllKept : ℕ → ℕ → Catalogue → Held → List MadeCall → Type 0
@@ -77,8 +70,8 @@ callsOf r = map callOf (r .calls)
 abbrev pub answersOf : MadeRun → List Answer
 answersOf r = map answerOf (r .calls)
 
-abbrev pub sheetOutcome : MadeRun → Outcome Sheet
-sheetOutcome r = finishOutcome (r .finish .answer) (r .finish .sheet)
+abbrev pub finishOf : MadeRun → Outcome Sheet
+finishOf r = finishOutcome (r .finish)
 
 module _ (q offset : ℕ) (c : Catalogue) (r : MadeRun) where
   -- an opening, fragment calls and `finish`, each as it promises
@@ -93,5 +86,5 @@ module _ (q offset : ℕ) (c : Catalogue) (r : MadeRun) where
     pub start : startOf r ≡ openingHeld q offset c (r .lent) (r .settings) (r .before)
     pub answered : answersOf r ≡ answers q offset c (startOf r) (callsOf r)
     pub held : endOf r ≡ after q offset c (startOf r) (callsOf r)
-    pub finished : sheetOutcome r ≡ finishAnswer q offset c (r .lentAtEnd) (endOf r)
+    pub finished : finishOf r ≡ finishAnswer q offset c (r .lentAtEnd) (endOf r)
     pub sheet : r .finish .sheet ≡ sheetAfter (finishRefusal q offset c (r .lentAtEnd) (endOf r)) (endOf r)
