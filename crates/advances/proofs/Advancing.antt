@@ -11,7 +11,7 @@ use Rattle.lines.specs.Lines.{lineRoom, refusalLine}
 use Rattle.fragment_stream.specs.Telling.{longestFragment}
 use Rattle.catch_rules.specs.Job.{Stage, still}
 use Rattle.catch_rules.specs.Feeding.{Goes, Ends}
-use Rattle.advances.specs.declared.Progress.the-variants as progress
+use Rattle.progress.specs.declared.Progress.the-variants as progress
 use Rattle.advances.specs.declared.Advance.{Advance}
 use Rattle.advances.specs.Advancing.{stepRoom, Tells, Advances, Refuses, Waits, Stays}
 

@@ -9,8 +9,8 @@ use Rattle.lines.specs.Lines.{lineRoom, refusalLine}
 use Rattle.fragment_stream.specs.Telling.{longestFragment}
 use Rattle.catch_rules.specs.Job.{Stage, still}
 use Rattle.catch_rules.specs.Feeding.{Goes, Ends}
-use Rattle.advances.specs.declared.Progress.{Progress}
-use Rattle.advances.specs.declared.Progress.the-variants as progress
+use Rattle.progress.specs.declared.Progress.{Progress}
+use Rattle.progress.specs.declared.Progress.the-variants as progress
 use Rattle.advances.specs.declared.Advance.{Advance}
 
 -- no step writes more: the lines of two reads, and of 256 groups

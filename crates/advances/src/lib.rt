@@ -5,13 +5,7 @@ ghost use Rattle.promises.specs.Slice.{old, new};
 ghost use Rattle.lines.specs.Lines.{lineRoom};
 ghost use Rattle.advances.specs.Advancing.{Refuses, Waits, Stays};
 use lines::put_refusal;
-
-// A command was done that has so many bytes; or the run has ended; or more bytes are needed.
-pub enum Progress {
-    Went(usize),
-    Ended,
-    More,
-}
+use progress::Progress;
 
 // Where the output ends, and how far the step went.
 pub struct Advance {

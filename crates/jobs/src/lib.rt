@@ -2,11 +2,11 @@
 ghost use mathlib.Core.Path.{_≡_};
 ghost use Rattle.jobs.specs.Jobs.{newJob, begunJob, openedJob};
 use advances::Advance;
-use advances::Progress;
 use audit_rules::settings::AuditState;
 use fresh::fresh_state;
 use fresh::zero_state;
 use job_opening::Indexed;
+use progress::Progress;
 use supplies::Supply;
 use supplying::Begun;
 use supplying::Opened;

@@ -34,8 +34,8 @@ use Rattle.catch_rules.specs.Job.{lentOf, running}
 use Rattle.catch_rules.specs.Feeding.{Ends}
 use Rattle.catch_rules.proofs.Steps.{fragment-wrong, fragment-short, run-other, bytes-behind}
 use Rattle.advances.specs.declared.Advance.{Advance}
-use Rattle.advances.specs.declared.Progress.{Progress}
-use Rattle.advances.specs.declared.Progress.the-variants as progress
+use Rattle.progress.specs.declared.Progress.{Progress}
+use Rattle.progress.specs.declared.Progress.the-variants as progress
 use Rattle.advances.specs.Advancing.{stepRoom, Tells, Advances, Refuses, Waits, Stays}
 use Rattle.advances.proofs.Advancing.{ends-told, last-step, refuses, waits, stays}
 use Rattle.told_fragments.specs.declared.ToldFragment.{ToldFragment}

@@ -12,8 +12,8 @@ use Rattle.audit_rules.specs.Settings.{Held, auditSeed, auditOffset}
 use Rattle.audit_rules.specs.Opening.{columns, openingRefusal}
 use Rattle.stream.specs.Commands.{maxStreamTargets}
 use Rattle.catch_rules.specs.Job.{lentOf, streamEntries, running}
-use Rattle.advances.specs.declared.Progress.{Progress}
-use Rattle.advances.specs.declared.Progress.the-variants as progress
+use Rattle.progress.specs.declared.Progress.{Progress}
+use Rattle.progress.specs.declared.Progress.the-variants as progress
 use Rattle.advances.specs.Advancing.{Advances}
 use Rattle.running.specs.declared.RunStep.{RunStep}
 

@@ -10,7 +10,6 @@ ghost use Rattle.audit_rules.specs.Calls.{heldOf, lentHeld};
 ghost use Rattle.advances.specs.Advancing.{stepRoom};
 ghost use Rattle.running.specs.Running.{catalogueOf, progressOf, Runs, Ran};
 use advances::Advance;
-use advances::Progress;
 use advances::refuse;
 use advances::wait;
 use advances::wait_or_refuse;
@@ -20,6 +19,7 @@ use finish_lines::put_finish;
 use finishing::finish_tested;
 use fragment_stream::FragmentRead;
 use fragment_stream::read_fragment;
+use progress::Progress;
 use told_fragments::tell_fragment;
 
 // How far the step went, and the state of the audit.

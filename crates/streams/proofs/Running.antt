@@ -12,8 +12,8 @@ use Rattle.catalogue.specs.Catalogue.{maxTargets}
 use Rattle.stream.specs.Commands.{maxStreamTargets, maxStreamBases}
 use Rattle.catch_rules.specs.Job.{Stage, streamEntries}
 use Rattle.supplying.specs.Supplying.{maxStreamNames}
-use Rattle.advances.specs.declared.Progress.{Progress}
-use Rattle.advances.specs.declared.Progress.the-variants as progress
+use Rattle.progress.specs.declared.Progress.{Progress}
+use Rattle.progress.specs.declared.Progress.the-variants as progress
 use Rattle.advances.specs.Advancing.{stepRoom, Tells}
 use Rattle.jobs.specs.declared.Job.{Job}
 use Rattle.jobs.specs.Jobs.{newJob, Buffers, buffersOf, stageOf, JobKept, JobAdvances}

@@ -14,7 +14,7 @@ use Rattle.supplies.specs.declared.Supply.{Supply}
 use Rattle.catch_rules.specs.Job.{noTargets, lentOf, beginning, supplying, running}
 use Rattle.job_opening.specs.Opened.{JobIndexed}
 use Rattle.advances.specs.declared.Advance.{Advance}
-use Rattle.advances.specs.declared.Progress.the-variants as progress
+use Rattle.progress.specs.declared.Progress.the-variants as progress
 use Rattle.advances.specs.Advancing.{Advances}
 use Rattle.supplying.specs.declared.Begun.{Begun}
 use Rattle.supplying.specs.declared.Begun.the-variants as begun

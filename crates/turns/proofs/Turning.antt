@@ -9,8 +9,8 @@ use lib.ListN.{length, take, drop, length-drop}
 use lib.Seq.{length-take-le, take-length, take-take, drop-drop}
 use Rattle.lists.specs.Cut.{window}
 use Rattle.lists.proofs.Places.{drop-take}
-use Rattle.advances.specs.declared.Progress.{Progress}
-use Rattle.advances.specs.declared.Progress.the-variants as progress
+use Rattle.progress.specs.declared.Progress.{Progress}
+use Rattle.progress.specs.declared.Progress.the-variants as progress
 use Rattle.turns.specs.Turns.{AtHand, Refilled, Stepped, keptBack, handed, leftBy, InFront, Turned}
 
 pub went-within : (p : Progress) (n from end : ℕ) → p ≡ progress.Went n → Stepped p from end → from + n ≤ end

@@ -4,8 +4,8 @@ use mathlib.Core.List.{List}
 use Prim.Native.Nat.{ℕ, _+_, _-_, _≤_}
 use lib.ListN.{length, take, drop}
 use Rattle.lists.specs.Cut.{window}
-use Rattle.advances.specs.declared.Progress.{Progress}
-use Rattle.advances.specs.declared.Progress.the-variants as progress
+use Rattle.progress.specs.declared.Progress.{Progress}
+use Rattle.progress.specs.declared.Progress.the-variants as progress
 use Rattle.turns.specs.declared.Turn.{Turn}
 
 -- they stand between two places

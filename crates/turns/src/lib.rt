@@ -3,7 +3,7 @@ ghost use mathlib.Core.Path.{_≡_};
 ghost use Prim.Native.Nat.{_-_, _≤_};
 ghost use Rattle.promises.specs.Slice.{old, new};
 ghost use Rattle.turns.specs.Turns.{AtHand, Kept, Refilled, Steps, Turned};
-use advances::Progress;
+use progress::Progress;
 
 // How many bytes are at hand, and whether the input has ended or could not be read.
 pub struct Filled {
