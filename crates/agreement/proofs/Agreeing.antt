@@ -23,7 +23,7 @@ use Rattle.audit_rules.specs.Sheet.{sheetOf, targetsShown, finishRefusal, finis
 use Rattle.audit_rules.specs.Run.{Answer, answerTo, next, answers, after}
 use Rattle.audit_rules.proofs.Checking.{fragment-checked}
 use Rattle.audit_rules.proofs.Parts.{reads-in-parts}
-use Rattle.agreement.specs.Each.{Each, no-more, both}
+use Rattle.lists.specs.Each.{Each, no-more, both}
 use Rattle.agreement.specs.Meaning.{isRefused}
 use Rattle.agreement.specs.Twins.{TwinRead, TwinCall, plainMate, indexedCall, plainCall, TwinRow, ReadsAgree, RowsAgree, TwinAnswer, refusals, RefusedTogether, RunsAgree}
 use Rattle.agreement.proofs.Fragments.{all-booked, twinRow, all-agree}

@@ -27,7 +27,7 @@ use Rattle.audit_rules.specs.Observing.{MateRead, mateRefusal, mateListed, mate
 use Rattle.audit_rules.specs.Fragment.{firstOf}
 use Rattle.audit_rules.proofs.Parts.{InParts}
 use Rattle.agreement.specs.Placements.{placementsIn, placementsIf, turnedPlacements}
-use Rattle.agreement.specs.Each.{Each, no-more, both}
+use Rattle.lists.specs.Each.{Each, no-more, both}
 use Rattle.agreement.specs.Twins.{TwinRead, turnedMate, plainMate, ReadAgrees, TwinRow}
 use Rattle.agreement.proofs.Placing.{placementOf, placements-listed, placements-turned}
 use Rattle.agreement.proofs.Turned.{row-listed, listed-∈, state-same, read-fewer, state-turned, read-turned, targets-turned}

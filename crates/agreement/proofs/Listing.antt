@@ -23,7 +23,7 @@ use Rattle.audit_rules.specs.Run.{Call, ifAccepted, answerTo, next, books, answ
 use Rattle.audit_rules.proofs.Opening.{opening-passed}
 use Rattle.audit_rules.proofs.Checking.{Checked, fragment-checked}
 use Rattle.audit_rules.proofs.Parts.{InParts, reads-in-parts}
-use Rattle.agreement.specs.Each.{Each, no-more, both}
+use Rattle.lists.specs.Each.{Each, no-more, both}
 use Rattle.agreement.specs.Meaning.{ReadMeans, Told, ReadsMean, CallsMean, no-call, a-call}
 use Rattle.agreement.proofs.Accepting.{accepted-when}
 use Rattle.agreement.proofs.Booking.{mate-bookable}

@@ -1,4 +1,3 @@
-pub mod Each
 pub mod Placements
 pub mod Meaning
 pub mod Twins

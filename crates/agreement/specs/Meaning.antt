@@ -32,7 +32,7 @@ use Rattle.audit_rules.specs.Observing.{MateRead, verdictRefusal, noWork, isSea
 use Rattle.audit_rules.specs.Fragment.{shareOf, fragmentBooks}
 use Rattle.audit_rules.specs.Sheet.{shown, totalsOf, runStatus, roleShown, targetShown, finishRefusal, finishAnswer}
 use Rattle.audit_rules.specs.Run.{Call, Answer, answerTo, next, books, answers, after, history}
-use Rattle.agreement.specs.Each.{Each}
+use Rattle.lists.specs.Each.{Each}
 
 abbrev pub isRefused : {A : Type 0} → Outcome A → Bool
 isRefused (refused n) = true

@@ -17,7 +17,7 @@ use Rattle.audit_rules.specs.Observing.{MateRead}
 use Rattle.audit_rules.specs.Fragment.{shareOf}
 use Rattle.audit_rules.specs.Sheet.{targetsShown}
 use Rattle.audit_rules.specs.Run.{Call, Answer}
-use Rattle.agreement.specs.Each.{Each}
+use Rattle.lists.specs.Each.{Each}
 use Rattle.agreement.specs.Meaning.{isRefused}
 use Rattle.agreement.specs.Placements.{placementsIn, placementsIf}
 
