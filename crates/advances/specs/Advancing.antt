@@ -8,7 +8,7 @@ use Rattle.texts.specs.Writing.{AddsAtMost}
 use Rattle.lines.specs.Lines.{lineRoom, refusalLine}
 use Rattle.fragment_stream.specs.Telling.{longestFragment}
 use Rattle.catch_rules.specs.Job.{Stage, still}
-use Rattle.catch_rules.specs.Feeding.{Goes, Ends}
+use Rattle.catch_rules.specs.Feeding.{Goes, Ends, Further, MustWait}
 use Rattle.progress.specs.declared.Progress.{Progress}
 use Rattle.progress.specs.declared.Progress.the-variants as progress
 use Rattle.advances.specs.declared.Advance.{Advance}
@@ -17,14 +17,30 @@ use Rattle.advances.specs.declared.Advance.{Advance}
 abbrev pub stepRoom : ℕ
 stepRoom = 98304
 
--- whatever follows the bytes that are there, and nothing where the stream ends with them: a text is written and the run goes on behind n of
--- them, or it is written and that is all, or nothing is written and nothing changes; then there are fewer than a code and a fragment can have
+-- a step went on: it is further, and whatever follows the bytes that are there, a text is written and the run goes on behind n of them
+pub record WentOn (before : Stage) (bytes : List ℕ) (n : ℕ) (text : List ℕ) (after : Stage) : Type 0 where
+  pub within : n ≤ length bytes
+  pub further : Further before n after
+  pub goes : Goes before bytes text after (drop n bytes)
+
+-- a step must wait: nothing is written, nothing changes, and there are fewer bytes than a code and a fragment can have
+pub record Waited (before : Stage) (bytes text : List ℕ) (after : Stage) : Type 0 where
+  pub must : MustWait before bytes
+  pub silent : text ≡ []
+  pub same : before ≡ after
+  pub few : length bytes ≤ longestFragment
+
+-- a step is done: a text is written, and that is all, whatever follows, or where the stream ends with these bytes
+abbrev pub IsDone : Bool → Stage → List ℕ → List ℕ → Type 0
+IsDone true before bytes text = still before bytes ≡ text
+IsDone false before bytes text = Ends before bytes text
+
+-- what each progress tells; at the end of the stream none waits
 abbrev pub Tells : Bool → Stage → List ℕ → Progress → List ℕ → Stage → Type 0
-Tells ended before bytes (progress.Went n) text after = (n ≤ length bytes) × Goes before bytes text after (drop n bytes)
-Tells true before bytes progress.Ended text after = still before bytes ≡ text
-Tells false before bytes progress.Ended text after = Ends before bytes text
+Tells ended before bytes (progress.Went n) text after = WentOn before bytes n text after
+Tells ended before bytes progress.Ended text after = IsDone ended before bytes text
 Tells true before bytes progress.More text after = ⊥
-Tells false before bytes progress.More text after = (text ≡ []) × (before ≡ after) × (length bytes ≤ longestFragment)
+Tells false before bytes progress.More text after = Waited before bytes text after
 
 -- a step from one stage to another: the text that it writes, and what that tells
 pub record Advances (ended : Bool) (before : Stage) (bytes out : List ℕ) (at : ℕ) (out′ : List ℕ) (r : Advance) (after : Stage) : Type 0 where

@@ -2,29 +2,31 @@
 -- Assumes nothing.
 use mathlib.Core.Path.{_≡_, refl, sym, ap, subst, _∙_}
 use mathlib.Core.Bool.{true≢false}
-use mathlib.Core.List.{List, [], _∷_, map, head-eq-of-cons-eq, tail-eq-of-cons-eq}
+use mathlib.Core.List.{List, [], _∷_, map, map-map, head-eq-of-cons-eq, tail-eq-of-cons-eq}
 use Prim.Native.Nat.{ℕ, zero, suc, _*_, _≤_}
+use native.Mathlib.Nat.{mul-zero}
 use Rattle.promises.specs.Refusal.{accepted, outcome}
 use Rattle.promises.proofs.Refusing.{outcome-accepted}
 use Rattle.catalogue.specs.Catalogue.{Catalogue, Valid, suppliedPlaces}
 use Rattle.index.specs.Index.{mappedSequences}
 use Rattle.scan.specs.Entries.{entryCount}
 use Rattle.index_search.specs.Work.{byIndex, plain}
-use Rattle.ledger.specs.Booking.{Counters, Books}
+use Rattle.ledger.specs.Booking.{Books}
 use Rattle.audit_rules.specs.declared.settings.Settings.{Settings}
 use Rattle.audit_rules.specs.declared.settings.LastOrdinal.the-variants as ordinals
 use Rattle.audit_rules.specs.declared.sheet.Sheet.{Sheet}
 use Rattle.audit_rules.specs.Settings.{Held, booksOf}
-use Rattle.audit_rules.specs.Opening.{IndexLent, columns, none, openingRefusal, started, openingHeld}
+use Rattle.audit_rules.specs.Opening.{IndexLent, columns, none, started}
 use Rattle.audit_rules.specs.Observing.{mateRow}
 use Rattle.audit_rules.specs.Fragment.{Fragment, shareOf, entriesLeft, fragmentRefusal, fragmentAccepted, heldAfter, fragmentWritten}
 use Rattle.audit_rules.specs.Sheet.{sheetOf, targetsShown, finishRefusal, finishAnswer}
-use Rattle.audit_rules.specs.Run.{Answer, answers, after}
-use Rattle.audit_rules.proofs.Opening.{opening-passed}
+use Rattle.audit_rules.specs.Run.{Answer, answerTo, next, answers, after}
 use Rattle.audit_rules.proofs.Checking.{fragment-checked}
 use Rattle.audit_rules.proofs.Parts.{reads-in-parts}
-use Rattle.agreement.specs.Twins.{TwinCall, indexedCall, plainCall, ReadsAgree, CallsAgree, isRefused, refusals, RefusedTogether, RunsAgree}
-use Rattle.agreement.proofs.Fragments.{all-booked, all-agree}
+use Rattle.lists.specs.Each.{Each, no-more, both}
+use Rattle.agreement.specs.Meaning.{isRefused}
+use Rattle.agreement.specs.Twins.{TwinRead, TwinCall, plainMate, indexedCall, plainCall, TwinRow, ReadsAgree, RowsAgree, TwinAnswer, refusals, RefusedTogether, RunsAgree}
+use Rattle.agreement.proofs.Fragments.{all-booked, twinRow, all-agree}
 
 module _ (q offset : ℕ) (some : 1 ≤ q) (c : Catalogue) (right : Valid c) where
   -- ---- one call
@@ -44,16 +46,22 @@ module _ (q offset : ℕ) (some : 1 ≤ q) (c : Catalogue) (right : Valid c) whe
 
     module _ (z : fragmentRefusal q offset c lent h fragment (entryCount (x .entries)) ≡ 0) (z′ : fragmentRefusal q offset c none h plainFragment (entryCount (x .plainEntries)) ≡ 0) where
       -- both accept it: every read agrees
-      fragment-agrees : ReadsAgree c (4 * shareOf (s .mode) (entryCount (x .entries))) (4 * shareOf (s .mode) (entryCount (x .plainEntries))) 0 0 (x .reads)
+      fragment-agrees : ReadsAgree c (4 * shareOf (s .mode) (entryCount (x .entries))) (4 * shareOf (s .mode) (entryCount (x .plainEntries))) (x .reads)
           (map (mateRow offset s (mappedSequences c) (byIndex q)) (fragment .reads)) (map (mateRow offset s (mappedSequences c) plain) (plainFragment .reads))
           (fragmentWritten q offset c lent h fragment (x .entries)) (fragmentWritten q offset c none h plainFragment (x .plainEntries))
       fragment-agrees =
           let a = fragment-checked q offset c lent h fragment (entryCount (x .entries)) z .own in
           let b = fragment-checked q offset c none h plainFragment (entryCount (x .plainEntries)) z′ .own in
-          all-agree q offset some c right s (x .reads) (a .reads) (b .reads) (4 * shareOf (s .mode) (entryCount (x .entries))) (4 * shareOf (s .mode) (entryCount (x .plainEntries))) 0 0
-          (x .entries) (fragmentWritten q offset c lent h fragment (x .entries)) (x .plainEntries) (fragmentWritten q offset c none h plainFragment (x .plainEntries))
-          (reads-in-parts offset s (mappedSequences c) (suppliedPlaces c) (fragment .reads) (x .entries) (a .roles) (a .rooms))
-          (reads-in-parts offset s (mappedSequences c) (suppliedPlaces c) (plainFragment .reads) (x .plainEntries) (b .roles) (b .rooms))
+          record {
+            rows = map (twinRow q offset some c right s) (x .reads);
+            firsts-are = map-map (λ (y : TwinRow). y .first) (twinRow q offset some c right s) (x .reads) ∙ sym (map-map (mateRow offset s (mappedSequences c) (byIndex q)) (λ (t : TwinRead). t .mate) (x .reads));
+            seconds-are = map-map (λ (y : TwinRow). y .second) (twinRow q offset some c right s) (x .reads) ∙ sym (map-map (mateRow offset s (mappedSequences c) plain) plainMate (x .reads));
+            each =
+                all-agree q offset some c right s (x .reads) (a .reads) (b .reads) (4 * shareOf (s .mode) (entryCount (x .entries))) (4 * shareOf (s .mode) (entryCount (x .plainEntries))) 0
+                (x .entries) (fragmentWritten q offset c lent h fragment (x .entries)) (x .plainEntries) (fragmentWritten q offset c none h plainFragment (x .plainEntries))
+                (rw mul-zero (reads-in-parts offset s (mappedSequences c) (suppliedPlaces c) (fragment .reads) (x .entries) (a .roles) (a .rooms)))
+                (rw mul-zero (reads-in-parts offset s (mappedSequences c) (suppliedPlaces c) (plainFragment .reads) (x .plainEntries) (b .roles) (b .rooms)));
+          }
 
       -- and both hold the same
       held-same : fragmentAccepted q offset c lent h fragment ≡ fragmentAccepted q offset c none h plainFragment
@@ -65,18 +73,36 @@ module _ (q offset : ℕ) (some : 1 ≤ q) (c : Catalogue) (right : Valid c) whe
 
   -- ---- calls one after the other
 
+  -- what both answer, from what each holds
+  abbrev twinAnswers : Held → Held → List TwinCall → List TwinAnswer
+  twinAnswers h h′ [] = []
+  twinAnswers h h′ (x ∷ xs) =
+      record { first = answerTo q offset c h (indexedCall x); second = answerTo q offset c h′ (plainCall x) }
+      ∷ twinAnswers (next q offset c h (indexedCall x)) (next q offset c h′ (plainCall x)) xs
+
+  firsts-are : (h h′ : Held) (xs : List TwinCall) → map (λ (a : TwinAnswer). a .first) (twinAnswers h h′ xs) ≡ answers q offset c h (map indexedCall xs)
+  firsts-are h h′ [] = refl
+  firsts-are h h′ (x ∷ xs) = ap {B = List Answer} (λ l. answerTo q offset c h (indexedCall x) ∷ l) (firsts-are (next q offset c h (indexedCall x)) (next q offset c h′ (plainCall x)) xs)
+
+  seconds-are : (h h′ : Held) (xs : List TwinCall) → map (λ (a : TwinAnswer). a .second) (twinAnswers h h′ xs) ≡ answers q offset c h′ (map plainCall xs)
+  seconds-are h h′ [] = refl
+  seconds-are h h′ (x ∷ xs) = ap {B = List Answer} (λ l. answerTo q offset c h′ (plainCall x) ∷ l) (seconds-are (next q offset c h (indexedCall x)) (next q offset c h′ (plainCall x)) xs)
+
+  abbrev Agrees : Settings → ℕ → TwinCall → TwinAnswer → Type 0
+  Agrees s i x a = RowsAgree s c x (a .first .rows) (a .second .rows) (a .first .entries) (a .second .entries)
+
   -- from one state on: calls that are refused by both or by none agree, and end in one state
-  abbrev CallsEnd : Settings → List TwinCall → Held → Held → Type 0
-  CallsEnd s xs h h′ = CallsAgree s c xs (answers q offset c h (map indexedCall xs)) (answers q offset c h′ (map plainCall xs)) × (after q offset c h (map indexedCall xs) ≡ after q offset c h′ (map plainCall xs))
+  abbrev CallsEnd : Settings → ℕ → List TwinCall → Held → Held → Type 0
+  CallsEnd s i xs h h′ = Each (Agrees s) i xs (twinAnswers h h′ xs) × (after q offset c h (map indexedCall xs) ≡ after q offset c h′ (map plainCall xs))
 
   abbrev Together : List TwinCall → Held → Held → Type 0
-  Together xs h h′ = refusals (answers q offset c h (map indexedCall xs)) ≡ refusals (answers q offset c h′ (map plainCall xs))
+  Together xs h h′ = RefusedTogether (answers q offset c h (map indexedCall xs)) (answers q offset c h′ (map plainCall xs))
 
-  calls-agree : (xs : List TwinCall) (h : Held) → Together xs h h → CallsEnd (h .state .settings) xs h h
-  calls-agree [] h e = (tt, refl)
-  calls-agree (x ∷ xs) h e =
+  calls-agree : (xs : List TwinCall) (h : Held) (i : ℕ) → Together xs h h → CallsEnd (h .state .settings) i xs h h
+  calls-agree [] h i e = (no-more i, refl)
+  calls-agree (x ∷ xs) h i e =
       go (fragmentRefusal q offset c (lent h x) h (fragment h x) (entryCount (x .entries))) (fragmentRefusal q offset c none h (plainFragment h x) (entryCount (x .plainEntries))) refl refl
-      (calls-agree xs) (head-eq-of-cons-eq e) (tail-eq-of-cons-eq e)
+      (λ g. calls-agree xs g (suc i)) (head-eq-of-cons-eq e) (tail-eq-of-cons-eq e)
     where
       first : ℕ → Answer
       first k = record { rows = outcome k (map (mateRow offset (h .state .settings) (mappedSequences c) (byIndex q)) (fragment h x .reads)); entries = entriesLeft k (fragmentWritten q offset c (lent h x) h (fragment h x) (x .entries)) (x .entries) }
@@ -84,26 +110,29 @@ module _ (q offset : ℕ) (some : 1 ≤ q) (c : Catalogue) (right : Valid c) whe
       second : ℕ → Answer
       second k = record { rows = outcome k (map (mateRow offset (h .state .settings) (mappedSequences c) plain) (plainFragment h x .reads)); entries = entriesLeft k (fragmentWritten q offset c none h (plainFragment h x) (x .plainEntries)) (x .plainEntries) }
 
-      next : ℕ → Held
-      next k = heldAfter k (fragmentAccepted q offset c (lent h x) h (fragment h x)) h
+      pair : ℕ → ℕ → TwinAnswer
+      pair k k′ = record { first = first k; second = second k′ }
 
-      next′ : ℕ → Held
-      next′ k = heldAfter k (fragmentAccepted q offset c none h (plainFragment h x)) h
+      held : ℕ → Held
+      held k = heldAfter k (fragmentAccepted q offset c (lent h x) h (fragment h x)) h
 
-      join : (y y′ : Held) → y ≡ y′ → ((g : Held) → Together xs g g → CallsEnd (g .state .settings) xs g g) → Together xs y y′ → CallsEnd (y .state .settings) xs y y′
-      join y y′ e ih t = subst (λ (g : Held). CallsEnd (y .state .settings) xs y g) e (ih y (t ∙ ap (λ (g : Held). refusals (answers q offset c g (map plainCall xs))) (sym e)))
+      held′ : ℕ → Held
+      held′ k = heldAfter k (fragmentAccepted q offset c none h (plainFragment h x)) h
+
+      join : (y y′ : Held) → y ≡ y′ → ((g : Held) → Together xs g g → CallsEnd (g .state .settings) (suc i) xs g g) → Together xs y y′ → CallsEnd (y .state .settings) (suc i) xs y y′
+      join y y′ e ih t = subst (λ (g : Held). CallsEnd (y .state .settings) (suc i) xs y g) e (ih y (t ∙ ap (λ (g : Held). refusals (answers q offset c g (map plainCall xs))) (sym e)))
 
       go : (k k′ : ℕ) → fragmentRefusal q offset c (lent h x) h (fragment h x) (entryCount (x .entries)) ≡ k → fragmentRefusal q offset c none h (plainFragment h x) (entryCount (x .plainEntries)) ≡ k′
-          → ((g : Held) → Together xs g g → CallsEnd (g .state .settings) xs g g)
-          → isRefused (first k .rows) ≡ isRefused (second k′ .rows) → Together xs (next k) (next′ k′)
-          → CallsAgree (h .state .settings) c (x ∷ xs) (first k ∷ answers q offset c (next k) (map indexedCall xs)) (second k′ ∷ answers q offset c (next′ k′) (map plainCall xs))
-          × (after q offset c (next k) (map indexedCall xs) ≡ after q offset c (next′ k′) (map plainCall xs))
+          → ((g : Held) → Together xs g g → CallsEnd (g .state .settings) (suc i) xs g g)
+          → isRefused (first k .rows) ≡ isRefused (second k′ .rows) → Together xs (held k) (held′ k′)
+          → Each (Agrees (h .state .settings)) i (x ∷ xs) (pair k k′ ∷ twinAnswers (held k) (held′ k′) xs)
+          × (after q offset c (held k) (map indexedCall xs) ≡ after q offset c (held′ k′) (map plainCall xs))
       go zero zero z z′ ih v t =
           let r = join (fragmentAccepted q offset c (lent h x) h (fragment h x)) (fragmentAccepted q offset c none h (plainFragment h x)) (held-same h x z z′) ih t in
-          ((fragment-agrees h x z z′, r .0), r .1)
+          (both i x (pair 0 0) xs _ (fragment-agrees h x z z′) (r .0), r .1)
       go zero (suc k′) z z′ ih v t = absurd (true≢false (sym v))
       go (suc k) zero z z′ ih v t = absurd (true≢false v)
-      go (suc k) (suc k′) z z′ ih v t = let r = ih h t in ((tt, r .0), r .1)
+      go (suc k) (suc k′) z z′ ih v t = let r = ih h t in (both i x (pair (suc k) (suc k′)) xs _ tt (r .0), r .1)
 
   -- ---- the sheet
 
@@ -116,22 +145,22 @@ module _ (q offset : ℕ) (some : 1 ≤ q) (c : Catalogue) (right : Valid c) whe
       let same : a ≡ b = sym x ∙ ap sheetOf e ∙ y in
       (same, λ i. targetsShown (same i) (e i .counters) c)
 
-  pub from-one : (h : Held) (xs : List TwinCall) (ks rs os : List ℕ) → RefusedTogether q offset c ks rs os h h xs → RunsAgree q offset c ks rs os h h xs (h .state .settings)
-  from-one h xs ks rs os t =
-      let r = calls-agree xs h (t .calls) in
+  from-one : (h : Held) (xs : List TwinCall) (lent : IndexLent) → Together xs h h
+      → RunsAgree (h .state .settings) c xs (answers q offset c h (map indexedCall xs)) (answers q offset c h (map plainCall xs)) (after q offset c h (map indexedCall xs)) (after q offset c h (map plainCall xs))
+      (finishAnswer q offset c lent (after q offset c h (map indexedCall xs))) (finishAnswer q offset c none (after q offset c h (map plainCall xs)))
+  from-one h xs lent t =
+      let r = calls-agree xs h 0 t in
       record {
-        calls = r .0;
-        sheets = sheets-same (columns ks rs os) none (after q offset c h (map indexedCall xs)) (after q offset c h (map plainCall xs)) (r .1);
+        calls = record { answered = twinAnswers h h xs; firsts-are = firsts-are h h xs; seconds-are = seconds-are h h xs; each = r .0 };
+        sheets = sheets-same lent none (after q offset c h (map indexedCall xs)) (after q offset c h (map plainCall xs)) (r .1);
       }
 
 -- ---- from two openings
 
--- two audits that both open, one by the index and one at every start, agree on one list of calls in which the second gets some reads
--- turned round, where no call is refused by one alone
-pub runs-agree : (q offset : ℕ) → 1 ≤ q → (c : Catalogue) (s : Settings) (k k′ : Counters) (ks rs os : List ℕ)
-    → openingRefusal q offset c (columns ks rs os) s k ≡ 0 → openingRefusal q offset c none s k′ ≡ 0
-    → (xs : List TwinCall) (ks′ rs′ os′ : List ℕ)
-    → RefusedTogether q offset c ks′ rs′ os′ (openingHeld q offset c (columns ks rs os) s k) (openingHeld q offset c none s k′) xs
-    → RunsAgree q offset c ks′ rs′ os′ (openingHeld q offset c (columns ks rs os) s k) (openingHeld q offset c none s k′) xs s
-runs-agree q offset some c s k k′ ks rs os z z′ xs ks′ rs′ os′ =
-    rw (z, z′) (from-one q offset some c (opening-passed q offset c none s k′ z′ .catalogue) (started c s) xs ks′ rs′ os′)
+-- two audits that start alike, one by an index and one at every start, agree on one list of calls in which the second gets some reads turned
+-- round, where no call is refused by one alone
+pub runs-agree : (q offset : ℕ) → 1 ≤ q → (c : Catalogue) → Valid c → (s : Settings) (h h′ : Held) → h ≡ started c s → h′ ≡ started c s → (xs : List TwinCall) (lent : IndexLent)
+    → RefusedTogether (answers q offset c h (map indexedCall xs)) (answers q offset c h′ (map plainCall xs))
+    → RunsAgree s c xs (answers q offset c h (map indexedCall xs)) (answers q offset c h′ (map plainCall xs)) (after q offset c h (map indexedCall xs)) (after q offset c h′ (map plainCall xs))
+    (finishAnswer q offset c lent (after q offset c h (map indexedCall xs))) (finishAnswer q offset c none (after q offset c h′ (map plainCall xs)))
+runs-agree q offset some c right s h h′ e e′ xs lent = rw (e, e′) (from-one q offset some c right (started c s) xs lent)

@@ -6,13 +6,13 @@ use mathlib.Core.Logic.{_⊎_, inl, inr}
 use mathlib.Core.List.{List, [], _∷_}
 use Prim.Native.Nat.{ℕ, zero, suc, _<_}
 use native.Mathlib.Omega.{arith}
-use lib.ListN.{length}
+use lib.ListN.{length, length-map}
 use lib.Dec.{ltb}
 use Rattle.lists.specs.Member.{_∈_}
 use Rattle.lists.proofs.Cases.{by-test}
 use Rattle.lists.proofs.Member.{map-∈, append-∈}
 use Rattle.bases.specs.Eligibility.{eligibility}
-use Rattle.catalogue.specs.Catalogue.{Catalogue}
+use Rattle.catalogue.specs.Catalogue.{Catalogue, mapped, suppliedPlaces}
 use Rattle.index.specs.Index.{mappedSequences}
 use Rattle.places.specs.Place.{Place, groups}
 use Rattle.places.proofs.Placing.{groups-∈}
@@ -61,13 +61,18 @@ module _ (offset : ℕ) (s : Settings) (ss : List (List ℕ)) (way : Way) (r : M
       go false fit = inl refl
 
   -- it can be booked
-  pub read-bookable : Bookable (length ss) (mateBooked offset s ss way r)
+  read-bookable : Bookable (length ss) (mateBooked offset s ss way r)
   read-bookable =
       record {
         role = few-roles (r .role);
         state = shown-few (s .remap) _ state-shown;
         ranked = λ p m. groups-∈ ss (r .read .bases) p (listed-∈ offset s ss r p m) .0 .ranked;
       }
+
+-- in the targets of a catalogue
+pub mate-bookable : (c : Catalogue) (offset : ℕ) (s : Settings) (way : Way) (r : MateRead) → Bookable (length (suppliedPlaces c)) (mateBooked offset s (mappedSequences c) way r)
+mate-bookable c offset s way r =
+    subst (λ n. Bookable n (mateBooked offset s (mappedSequences c) way r)) (length-map (mapped c) _ ∙ sym (length-map (mapped c) _)) (read-bookable offset s (mappedSequences c) way r)
 
 -- ---- runs
 

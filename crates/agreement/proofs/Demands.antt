@@ -1,65 +1,88 @@
 -- What is owed of whole runs, each as one theorem about the audit as it is: seeds of 15 bases, qualities from 33 on.
 -- Assumes nothing.
-use mathlib.Core.Path.{_≡_}
-use mathlib.Core.List.{List}
+use mathlib.Core.Path.{_≡_, ap}
+use mathlib.Core.Bool.{true}
+use mathlib.Core.List.{List, map}
 use Prim.Native.Nat.{ℕ}
 use native.Mathlib.Omega.{arith}
 use Rattle.catalogue.specs.Catalogue.{Catalogue}
 use Rattle.ledger.specs.Booking.{Counters}
-use Rattle.audit_rules.specs.declared.calls.Opening.{Opening}
-use Rattle.audit_rules.specs.declared.calls.Finish.{Finish}
 use Rattle.audit_rules.specs.declared.settings.Settings.{Settings}
 use Rattle.audit_rules.specs.Settings.{Held, auditSeed, auditOffset}
-use Rattle.audit_rules.specs.Opening.{IndexLent, columns, none, openingRefusal, openingHeld}
-use Rattle.audit_rules.specs.Run.{Call, next, after}
-use Rattle.agreement.specs.Meaning.{RunMeans, Reconciled, CanBeLeftOut}
-use Rattle.agreement.specs.Twins.{TwinCall, RefusedTogether, RunsAgree}
-use Rattle.agreement.specs.Made.{MadeCall, RunMade, RunIsPaper}
+use Rattle.audit_rules.specs.Opening.{IndexLent, columns, none, openingRefusal, opened, openingHeld}
+use Rattle.audit_rules.specs.Sheet.{finishAnswer}
+use Rattle.audit_rules.specs.Run.{Call, answerTo, answers, after}
+use Rattle.audit_rules.proofs.Opening.{opening-passed}
+use Rattle.agreement.specs.Meaning.{isRefused, RunMeans, Reconciled, CanBeLeftOut}
+use Rattle.agreement.specs.Twins.{TwinCall, indexedCall, plainCall, RefusedTogether, RunsAgree}
+use Rattle.agreement.specs.Made.{MadeRun, startOf, endOf, callsOf, answersOf, finishOf, RunMade, RunIsPaper}
+use Rattle.agreement.specs.Promised.{Opened, TwinRuns}
 use Rattle.agreement.proofs.Made.{made-is-paper}
 use Rattle.agreement.proofs.Running.{spare-call}
-use Rattle.agreement.proofs.Sheets.{run-counts, sheet-means, never-apart, role-shown}
-use Rattle.agreement.proofs.Listing.{calls-mean}
+use Rattle.agreement.proofs.Sheets.{finish-accepted, never-apart, role-shown}
 use Rattle.agreement.proofs.Agreeing.{runs-agree}
+use Rattle.agreement.proofs.Promised.{run-means, made-means, made-agree}
 
--- Demand 2: "a complete answer lists each matching (linear target, start, strand) once, ascending; an accepted read is indeterminate
--- exactly if it has more matches than the limit; state counts and available target totals equal counts over the accepted fragments."
-pub demand-two : (c : Catalogue) (lent : IndexLent) (s : Settings) (k : Counters) → openingRefusal auditSeed auditOffset c lent s k ≡ 0
-    → (xs : List Call) → RunMeans auditSeed auditOffset c s (openingHeld auditSeed auditOffset c lent s k) xs
-demand-two c lent s k begun xs =
-    record {
-      calls = calls-mean auditSeed auditOffset c (openingHeld auditSeed auditOffset c lent s k) xs;
-      counts = run-counts auditSeed auditOffset c lent s k begun xs;
-      sheet = sheet-means auditSeed auditOffset c lent s k begun xs;
-    }
+-- ---- runs of the definitions
 
--- Demand 3: "the audit by the index and the plain one that compares at every start agree, whichever reads the second gets turned round,
--- and the index never makes more full comparisons", for each read that is not turned. The same targets and settings, neither opening refused; any list of fragment calls,
--- refused ones included, `finish` last; no call refused by one audit alone. Placements are what stands in the entries that each is lent.
+module _ (c : Catalogue) (lent : IndexLent) (s : Settings) (k : Counters) (begun : openingRefusal auditSeed auditOffset c lent s k ≡ 0) (xs : List Call) where
+  abbrev start : Held
+  start = openingHeld auditSeed auditOffset c lent s k
+
+  abbrev end : Held
+  end = after auditSeed auditOffset c start xs
+
+  -- Demand 2: a complete answer lists each matching (linear target, start, strand) once, ascending; an accepted read is indeterminate exactly
+  -- if it has more matches than the limit; state counts and available target totals equal counts over the accepted fragments. And a fragment
+  -- is accepted exactly where no condition of the table of refusals holds.
+  pub demand-two : (lent′ : IndexLent) → RunMeans auditSeed auditOffset c s start xs (answers auditSeed auditOffset c start xs) end (finishAnswer auditSeed auditOffset c lent′ end)
+  demand-two = run-means auditSeed auditOffset c lent s k begun xs
+
+  -- Refusal 18 meets no run whose state and counters nobody else wrote: `finish` is accepted exactly where the opening's checks pass, and the
+  -- sheet shows as many reads of a role, over its states, as were accepted.
+  pub reconciled : Reconciled auditSeed auditOffset c s start xs
+  reconciled =
+      record {
+        together = never-apart auditSeed auditOffset c lent s k begun xs;
+        accepted-when = finish-accepted auditSeed auditOffset c lent s k begun xs;
+        shown = role-shown auditSeed auditOffset c lent s k begun xs;
+      }
+
+-- Demand 3: the audit by the index and the plain one agree, whichever reads the second gets turned round, and the index never makes more full
+-- comparisons, for each read that is not turned. The same targets and settings, neither opening refused; any list of fragment calls, refused
+-- ones included, `finish` last; no call refused by one audit alone. Placements are what stands in the entries that each is lent.
 pub demand-three : (c : Catalogue) (s : Settings) (k k′ : Counters) (ks rs os : List ℕ)
     → openingRefusal auditSeed auditOffset c (columns ks rs os) s k ≡ 0 → openingRefusal auditSeed auditOffset c none s k′ ≡ 0
-    → (xs : List TwinCall) (ks′ rs′ os′ : List ℕ)
-    → RefusedTogether auditSeed auditOffset c ks′ rs′ os′ (openingHeld auditSeed auditOffset c (columns ks rs os) s k) (openingHeld auditSeed auditOffset c none s k′) xs
-    → RunsAgree auditSeed auditOffset c ks′ rs′ os′ (openingHeld auditSeed auditOffset c (columns ks rs os) s k) (openingHeld auditSeed auditOffset c none s k′) xs s
-demand-three = runs-agree auditSeed auditOffset (omega arith)
+    → (xs : List TwinCall) (lent : IndexLent)
+    → RefusedTogether (answers auditSeed auditOffset c (openingHeld auditSeed auditOffset c (columns ks rs os) s k) (map indexedCall xs))
+    (answers auditSeed auditOffset c (openingHeld auditSeed auditOffset c none s k′) (map plainCall xs))
+    → RunsAgree s c xs (answers auditSeed auditOffset c (openingHeld auditSeed auditOffset c (columns ks rs os) s k) (map indexedCall xs))
+    (answers auditSeed auditOffset c (openingHeld auditSeed auditOffset c none s k′) (map plainCall xs))
+    (after auditSeed auditOffset c (openingHeld auditSeed auditOffset c (columns ks rs os) s k) (map indexedCall xs))
+    (after auditSeed auditOffset c (openingHeld auditSeed auditOffset c none s k′) (map plainCall xs))
+    (finishAnswer auditSeed auditOffset c lent (after auditSeed auditOffset c (openingHeld auditSeed auditOffset c (columns ks rs os) s k) (map indexedCall xs)))
+    (finishAnswer auditSeed auditOffset c none (after auditSeed auditOffset c (openingHeld auditSeed auditOffset c none s k′) (map plainCall xs)))
+demand-three c s k k′ ks rs os z z′ =
+    runs-agree auditSeed auditOffset (omega arith) c (opening-passed auditSeed auditOffset c none s k′ z′ .catalogue) s _ _ (ap (λ n. opened n c s k) z) (ap (λ n. opened n c s k′) z′)
 
--- What the calls of the code do is what the definitions say of a run: by their promises alone, an opening, fragment calls each lent what the
--- one before it left, and `finish` answer and leave what is answered and left on paper. So the demands hold of what the calls do.
-pub as-promised : (c : Catalogue) (lent : IndexLent) (s : Settings) (k : Counters) (opening : Opening) (k′ : Counters) (xs : List MadeCall) (lent′ : IndexLent) (finish : Finish)
-    → RunMade auditSeed auditOffset c lent s k opening k′ xs lent′ finish → RunIsPaper auditSeed auditOffset c lent s k opening k′ xs lent′ finish
-as-promised = made-is-paper auditSeed auditOffset
-
--- "No upload can spoil a run": a call that leaves state and counters as they were, a refused one above all (`refused-leaves`), can be
--- left out of a list or put in without a change in what the others answer.
+-- No upload can spoil a run: a refused call can be left out of a list or put in without a change in what the others answer.
 pub nothing-spoils : (c : Catalogue) (h : Held) (xs : List Call) (x : Call) (ys : List Call)
-    → next auditSeed auditOffset c (after auditSeed auditOffset c h xs) x ≡ after auditSeed auditOffset c h xs → CanBeLeftOut auditSeed auditOffset c h xs x ys
+    → isRefused (answerTo auditSeed auditOffset c (after auditSeed auditOffset c h xs) x .rows) ≡ true → CanBeLeftOut auditSeed auditOffset c h xs x ys
 nothing-spoils c = spare-call auditSeed auditOffset c
 
--- Refusal 18, "rows or target sums disagree with the kept totals, or a sum overflows", meets no run whose state and counters nobody else
--- wrote, and the sheet shows as many reads of a role, over its states, as were accepted.
-pub reconciled : (c : Catalogue) (lent : IndexLent) (s : Settings) (k : Counters) → openingRefusal auditSeed auditOffset c lent s k ≡ 0
-    → (xs : List Call) → Reconciled auditSeed auditOffset c (openingHeld auditSeed auditOffset c lent s k) xs
-reconciled c lent s k begun xs =
-    record {
-      together = never-apart auditSeed auditOffset c lent s k begun xs;
-      shown = role-shown auditSeed auditOffset c lent s k begun xs;
-    }
+-- ---- runs of the calls, of each of which no more is known than its promise
+
+module _ (c : Catalogue) where
+  -- An opening, fragment calls each lent what the one before it left, and `finish` answer and leave what is answered and left on paper.
+  pub as-promised : (r : MadeRun) → RunMade auditSeed auditOffset c r → RunIsPaper auditSeed auditOffset c r
+  as-promised = made-is-paper auditSeed auditOffset c
+
+  -- Demand 2 of what the calls answer.
+  pub demand-two-promised : (r : MadeRun) → RunMade auditSeed auditOffset c r → Opened r
+      → RunMeans auditSeed auditOffset c (r .settings) (startOf r) (callsOf r) (answersOf r) (endOf r) (finishOf r)
+  demand-two-promised = made-means auditSeed auditOffset c
+
+  -- Demand 3 of what the calls of both audits answer.
+  pub demand-three-promised : (r r′ : MadeRun) (xs : List TwinCall) → RunMade auditSeed auditOffset c r → RunMade auditSeed auditOffset c r′ → Opened r → Opened r′ → TwinRuns r r′ xs
+      → RefusedTogether (answersOf r) (answersOf r′) → RunsAgree (r .settings) c xs (answersOf r) (answersOf r′) (endOf r) (endOf r′) (finishOf r) (finishOf r′)
+  demand-three-promised = made-agree auditSeed auditOffset c (omega arith)

@@ -3,7 +3,8 @@
 use mathlib.Core.Path.{_≡_, refl, sym, ap, ap₂, _∙_}
 use mathlib.Core.Bool.{Bool, true, false, cond}
 use mathlib.Core.List.{List, [], _∷_, map}
-use Prim.Native.Nat.{ℕ, _+_, _≤_, _<_}
+use Prim.Native.Nat.{ℕ, suc, _+_, _*_, _≤_, _<_}
+use native.Mathlib.Nat.{mul-suc}
 use native.Mathlib.Omega.{arith}
 use lib.ListN.{length, drop, length-map}
 use Rattle.lists.specs.Cut.{window}
@@ -26,7 +27,8 @@ use Rattle.audit_rules.specs.Observing.{MateRead, mateRefusal, mateListed, mate
 use Rattle.audit_rules.specs.Fragment.{firstOf}
 use Rattle.audit_rules.proofs.Parts.{InParts}
 use Rattle.agreement.specs.Placements.{placementsIn, placementsIf, turnedPlacements}
-use Rattle.agreement.specs.Twins.{TwinRead, turnedMate, plainMate, ReadAgrees, ReadsAgree}
+use Rattle.lists.specs.Each.{Each, no-more, both}
+use Rattle.agreement.specs.Twins.{TwinRead, turnedMate, plainMate, ReadAgrees, TwinRow}
 use Rattle.agreement.proofs.Placing.{placementOf, placements-listed, placements-turned}
 use Rattle.agreement.proofs.Turned.{row-listed, listed-∈, state-same, read-fewer, state-turned, read-turned, targets-turned}
 
@@ -120,12 +122,17 @@ module _ (q offset : ℕ) (some : 1 ≤ q) (c : Catalogue) (valid : Valid c) (s 
       ∙ ap (bookedAll ranked (map (mateBooked offset s ss plain) (map plainMate ts)))
       (one-booked t (first-unrefused (t .mate) (mates ts) z) (first-unrefused (plainMate t) (map plainMate ts) z′) books)
 
-  pub all-agree : (ts : List TwinRead) → Unrefused (mates ts) → Unrefused (map plainMate ts) → (width width′ from from′ : ℕ) (before after before′ after′ : List ℕ)
-      → InParts cleared width from (map (mateEntries offset s ss ranked) (mates ts)) before after → InParts cleared width′ from′ (map (mateEntries offset s ss ranked) (map plainMate ts)) before′ after′
-      → ReadsAgree c width width′ from from′ ts (map (mateRow offset s ss (byIndex q)) (mates ts)) (map (mateRow offset s ss plain) (map plainMate ts)) after after′
-  all-agree [] z z′ width width′ from from′ before after before′ after′ p p′ = tt
-  all-agree (t ∷ ts) z z′ width width′ from from′ before after before′ after′ p p′ = (
-    one-agrees t (first-unrefused (t .mate) (mates ts) z) (first-unrefused (plainMate t) (map plainMate ts) z′)
-        (window after from width) (window before from width) (window after′ from′ width′) (window before′ from′ width′) (p .0) (p′ .0),
-    all-agree ts (rest-unrefused (t .mate) (mates ts) z) (rest-unrefused (plainMate t) (map plainMate ts) z′) width width′ (from + width) (from′ + width′) before after before′ after′ (p .1) (p′ .1),
-  )
+  -- the rows of a read
+  abbrev pub twinRow : TwinRead → TwinRow
+  twinRow t = record { first = mateRow offset s ss (byIndex q) (t .mate); second = mateRow offset s ss plain (plainMate t) }
+
+  -- each read from the place i on
+  pub all-agree : (ts : List TwinRead) → Unrefused (mates ts) → Unrefused (map plainMate ts) → (width width′ i : ℕ) (before after before′ after′ : List ℕ)
+      → InParts cleared width (width * i) (map (mateEntries offset s ss ranked) (mates ts)) before after → InParts cleared width′ (width′ * i) (map (mateEntries offset s ss ranked) (map plainMate ts)) before′ after′
+      → Each (λ i (t : TwinRead) (x : TwinRow). ReadAgrees c t (x .first) (x .second) (window after (width * i) width) (window after′ (width′ * i) width′)) i ts (map twinRow ts)
+  all-agree [] z z′ width width′ i before after before′ after′ p p′ = no-more i
+  all-agree (t ∷ ts) z z′ width width′ i before after before′ after′ p p′ =
+      both i t (twinRow t) ts (map twinRow ts)
+      (one-agrees t (first-unrefused (t .mate) (mates ts) z) (first-unrefused (plainMate t) (map plainMate ts) z′)
+      (window after (width * i) width) (window before (width * i) width) (window after′ (width′ * i) width′) (window before′ (width′ * i) width′) (p .0) (p′ .0))
+      (all-agree ts (rest-unrefused (t .mate) (mates ts) z) (rest-unrefused (plainMate t) (map plainMate ts) z′) width width′ (suc i) before after before′ after′ (rw (mul-suc width i) (p .1)) (rw (mul-suc width′ i) (p′ .1)))

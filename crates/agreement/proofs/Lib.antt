@@ -1,5 +1,6 @@
 pub mod Turned
 pub mod Booking
+pub mod Accepting
 pub mod Running
 pub mod Listing
 pub mod Sheets
@@ -7,5 +8,6 @@ pub mod Placing
 pub mod Fragments
 pub mod Agreeing
 pub mod Made
+pub mod Promised
 pub mod Demands
 pub mod Examples

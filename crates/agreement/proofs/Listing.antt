@@ -1,29 +1,32 @@
 -- What an accepted fragment answers and books of each read.
 -- Assumes nothing.
-use mathlib.Core.Path.{_≡_, refl, sym, subst}
-use mathlib.Core.List.{List, [], _∷_, map}
-use Prim.Native.Nat.{ℕ, zero, suc, _+_, _*_}
+use mathlib.Core.Path.{_≡_, refl, sym, ap, subst, _∙_}
+use mathlib.Core.List.{List, [], _∷_, map, map-map}
+use Prim.Native.Nat.{ℕ, zero, suc, _*_}
+use native.Mathlib.Nat.{mul-zero, mul-suc}
+use Rattle.lists.specs.Cut.{window}
 use Rattle.promises.specs.Refusal.{refused, accepted}
 use Rattle.promises.proofs.Refusing.{outcome-accepted, outcome-number}
 use Rattle.catalogue.specs.Catalogue.{Catalogue, Valid, suppliedPlaces}
 use Rattle.seeds.specs.Seeds.{placed}
 use Rattle.index.specs.Index.{mappedSequences}
-use Rattle.places.specs.Place.{groups}
-use Rattle.index_search.specs.declared.work.MappingWork.{MappingWork}
 use Rattle.scan.specs.Entries.{entryCount, cleared}
 use Rattle.index_search.specs.Work.{Way, workBy}
 use Rattle.answers.specs.Answer.{Row}
-use Rattle.indexed_mapper.proofs.Laws.{row-lists, row-number}
+use Rattle.indexed_mapper.proofs.Laws.{row-lists}
 use Rattle.audit_rules.specs.declared.settings.Settings.{Settings}
 use Rattle.audit_rules.specs.Settings.{Held}
 use Rattle.audit_rules.specs.Opening.{wayOf}
 use Rattle.audit_rules.specs.Observing.{MateRead, mateRow, mateEntries, mateBooked}
 use Rattle.audit_rules.specs.Fragment.{shareOf, entriesLeft, fragmentRefusal, fragmentBooked, fragmentWritten}
-use Rattle.audit_rules.specs.Run.{Call, ifAccepted, answerTo, next, books}
+use Rattle.audit_rules.specs.Run.{Call, ifAccepted, answerTo, next, books, answers}
 use Rattle.audit_rules.proofs.Opening.{opening-passed}
 use Rattle.audit_rules.proofs.Checking.{Checked, fragment-checked}
 use Rattle.audit_rules.proofs.Parts.{InParts, reads-in-parts}
-use Rattle.agreement.specs.Meaning.{ReadMeans, ReadsMean, CallsMean}
+use Rattle.lists.specs.Each.{Each, no-more, both}
+use Rattle.agreement.specs.Meaning.{ReadMeans, Told, ReadsMean, CallsMean, no-call, a-call}
+use Rattle.agreement.proofs.Accepting.{accepted-when}
+use Rattle.agreement.proofs.Booking.{mate-bookable}
 use Rattle.agreement.proofs.Turned.{row-listed}
 
 -- a read whose listed groups stand at the front of its part
@@ -32,17 +35,14 @@ read-means : (offset : ℕ) (s : Settings) (c : Catalogue) → Valid c → (way 
     → ReadMeans offset s c r (mateRow offset s (mappedSequences c) way r) (mateBooked offset s (mappedSequences c) way r) part part′
 read-means offset s c right way r part part′ e =
     record {
+      bookable = mate-bookable c offset s way r;
       role = refl;
       state = refl;
       groups = sym (row-listed offset s (mappedSequences c) way r);
       entries = e;
-      searched = λ on. rw on (row-lists c right (r .read .bases) (s .limit) work part part′ (rw on at e));
-      by-number = λ on. rw on (row-number (s .limit) (groups (mappedSequences c) (r .read .bases)) work);
       unsearched = λ off. rw off;
+      searched = λ on. rw on (row-lists c right (r .read .bases) (s .limit) (workBy way (mappedSequences c) (r .read .bases) (s .limit)) part part′ (rw on at e));
     }
-  where
-    work : MappingWork
-    work = workBy way (mappedSequences c) (r .read .bases) (s .limit)
 
 module _ (q offset : ℕ) (c : Catalogue) (h : Held) (x : Call) (rows : List Row) (told : answerTo q offset c h x .rows ≡ accepted rows) where
   abbrev s : Settings
@@ -66,20 +66,31 @@ module _ (q offset : ℕ) (c : Catalogue) (h : Held) (x : Call) (rows : List Row
       subst (λ n. InParts cleared width 0 (map (mateEntries offset s (mappedSequences c) (suppliedPlaces c)) (x .fragment .reads)) (x .entries) (entriesLeft n (fragmentWritten q offset c (x .lent) h (x .fragment) (x .entries)) (x .entries)))
       (sym (answered .0)) (reads-in-parts offset s (mappedSequences c) (suppliedPlaces c) (x .fragment .reads) (x .entries) (checked .own .roles) (checked .own .rooms))
 
-  reads-mean : (reads : List MateRead) (from : ℕ) → InParts cleared width from (map (mateEntries offset s (mappedSequences c) (suppliedPlaces c)) reads) (x .entries) (answerTo q offset c h x .entries)
-      → ReadsMean offset s c width from reads (map (mateRow offset s (mappedSequences c) (wayOf q (x .lent))) reads) (map (mateBooked offset s (mappedSequences c) (wayOf q (x .lent))) reads) (x .entries) (answerTo q offset c h x .entries)
-  reads-mean [] from p = tt
-  reads-mean (r ∷ reads) from p = (
-    read-means offset s c (opening-passed q offset c (x .lent) s (h .counters) (checked .opening) .catalogue) (wayOf q (x .lent)) r _ _ (p .0),
-    reads-mean reads (from + width) (p .1),
-  )
+  -- a read's row, and what is booked of it
+  abbrev toldOf : MateRead → Told
+  toldOf r = record { row = mateRow offset s (mappedSequences c) (wayOf q (x .lent)) r; booked = mateBooked offset s (mappedSequences c) (wayOf q (x .lent)) r }
 
-  -- each read, with what is booked of it
-  fragment-means : ReadsMean offset s c width 0 (x .fragment .reads) rows (books q offset c h x) (x .entries) (answerTo q offset c h x .entries)
+  -- each read from the place i on
+  reads-mean : (reads : List MateRead) (i : ℕ) → InParts cleared width (width * i) (map (mateEntries offset s (mappedSequences c) (suppliedPlaces c)) reads) (x .entries) (answerTo q offset c h x .entries)
+      → Each (λ i (r : MateRead) (t : Told). ReadMeans offset s c r (t .row) (t .booked) (window (x .entries) (width * i) width) (window (answerTo q offset c h x .entries) (width * i) width)) i reads (map toldOf reads)
+  reads-mean [] i p = no-more i
+  reads-mean (r ∷ reads) i p =
+      both i r (toldOf r) reads (map toldOf reads)
+      (read-means offset s c (opening-passed q offset c (x .lent) s (h .counters) (checked .opening) .catalogue) (wayOf q (x .lent)) r _ _ (p .0))
+      (reads-mean reads (suc i) (rw (mul-suc width i) (p .1)))
+
+  -- what is booked of an accepted one
+  books-are : fragmentBooked q offset c (x .lent) h (x .fragment) ≡ books q offset c h x
+  books-are = ap (λ n. ifAccepted n (fragmentBooked q offset c (x .lent) h (x .fragment))) (sym (answered .0))
+
+  fragment-means : ReadsMean offset s c width (x .fragment .reads) rows (books q offset c h x) (x .entries) (answerTo q offset c h x .entries)
   fragment-means =
-      subst (λ (l : List Row). ReadsMean offset s c width 0 (x .fragment .reads) l (books q offset c h x) (x .entries) (answerTo q offset c h x .entries)) (answered .1)
-      (subst (λ n. ReadsMean offset s c width 0 (x .fragment .reads) (map (mateRow offset s (mappedSequences c) (wayOf q (x .lent))) (x .fragment .reads)) (ifAccepted n (fragmentBooked q offset c (x .lent) h (x .fragment))) (x .entries) (answerTo q offset c h x .entries))
-      (sym (answered .0)) (reads-mean (x .fragment .reads) 0 in-parts))
+      record {
+        told = map toldOf (x .fragment .reads);
+        rows-are = map-map (λ (t : Told). t .row) toldOf (x .fragment .reads) ∙ answered .1;
+        booked-are = map-map (λ (t : Told). t .booked) toldOf (x .fragment .reads) ∙ books-are;
+        each = reads-mean (x .fragment .reads) 0 (rw (mul-zero width) in-parts);
+      }
 
 -- a refused call books nothing
 refused-books : (q offset : ℕ) (c : Catalogue) (h : Held) (x : Call) (n : ℕ) → answerTo q offset c h x .rows ≡ refused n → books q offset c h x ≡ []
@@ -92,9 +103,9 @@ refused-books q offset c h x n told =
     go (suc m) ne = refl
 
 -- each call of a list
-pub calls-mean : (q offset : ℕ) (c : Catalogue) (h : Held) (xs : List Call) → CallsMean q offset c h xs
-calls-mean q offset c h [] = tt
-calls-mean q offset c h (x ∷ xs) = (
-  record { accepts = fragment-means q offset c h x; refuses = refused-books q offset c h x },
-  calls-mean q offset c (next q offset c h x) xs,
-)
+pub calls-mean : (q offset : ℕ) (c : Catalogue) (h : Held) (xs : List Call) → CallsMean q offset c h xs (answers q offset c h xs)
+calls-mean q offset c h [] = no-call h
+calls-mean q offset c h (x ∷ xs) =
+    a-call h x (answerTo q offset c h x) xs (answers q offset c (next q offset c h x) xs)
+    (record { when = accepted-when q offset c h x; accepts = fragment-means q offset c h x; refuses = refused-books q offset c h x })
+    (calls-mean q offset c (next q offset c h x) xs)

@@ -1,18 +1,14 @@
 -- A run whose calls keep their promises is that of the definitions.
 -- Assumes nothing.
-use mathlib.Core.Path.{_≡_, refl, sym, ap, ap₂, subst, _∙_}
+use mathlib.Core.Path.{_≡_, refl, ap, ap₂, _∙_}
 use mathlib.Core.List.{List, [], _∷_, map}
 use Prim.Native.Nat.{ℕ}
 use Rattle.catalogue.specs.Catalogue.{Catalogue}
-use Rattle.ledger.specs.Booking.{Counters}
-use Rattle.audit_rules.specs.declared.calls.Opening.{Opening}
-use Rattle.audit_rules.specs.declared.calls.Finish.{Finish}
-use Rattle.audit_rules.specs.declared.settings.Settings.{Settings}
 use Rattle.audit_rules.specs.Settings.{Held}
-use Rattle.audit_rules.specs.Opening.{IndexLent, openingHeld}
-use Rattle.audit_rules.specs.Run.{Answer, answerTo, next, answers, after}
-use Rattle.audit_rules.specs.Calls.{Audits, Finishes}
-use Rattle.agreement.specs.Made.{MadeCall, callOf, answerOf, heldBy, AllKept, heldBehind, RunMade, RunIsPaper}
+use Rattle.audit_rules.specs.Run.{Answer, answerTo, answers, after}
+use Rattle.audit_rules.specs.Calls.{Audits}
+use Rattle.audit_rules.proofs.Finishing.{finish-outcome}
+use Rattle.agreement.specs.Made.{MadeCall, callOf, answerOf, heldBy, AllKept, heldBehind, MadeRun, startOf, endOf, RunMade, RunIsPaper}
 
 module _ (q offset : ℕ) (c : Catalogue) where
   answer-kept : (h : Held) (x : MadeCall) → Audits q offset c (x .lent) h (x .fragment) (x .entries) (x .result) (x .counters) (x .left) → answerOf x ≡ answerTo q offset c h (callOf x)
@@ -27,15 +23,13 @@ module _ (q offset : ℕ) (c : Catalogue) where
   held-kept h [] p = refl
   held-kept h (x ∷ xs) p = held-kept (heldBy x) xs (p .1) ∙ ap (λ z. after q offset c z (map callOf xs)) (p .0 .held)
 
-  pub made-is-paper : (lent : IndexLent) (s : Settings) (k : Counters) (opening : Opening) (k′ : Counters) (xs : List MadeCall) (lent′ : IndexLent) (finish : Finish)
-      → RunMade q offset c lent s k opening k′ xs lent′ finish → RunIsPaper q offset c lent s k opening k′ xs lent′ finish
-  made-is-paper lent s k opening k′ xs lent′ finish m =
-      let start : Held = record { state = opening .state; counters = k′ } in
-      let e : heldBehind start xs ≡ after q offset c (openingHeld q offset c lent s k) (map callOf xs) = held-kept start xs (m .calls) ∙ ap (λ z. after q offset c z (map callOf xs)) (m .opens .held) in
-      let f : Finishes q offset c lent′ (after q offset c (openingHeld q offset c lent s k) (map callOf xs)) finish = subst (λ (z : Held). Finishes q offset c lent′ z finish) e (m .finishes) in
+  pub made-is-paper : (r : MadeRun) → RunMade q offset c r → RunIsPaper q offset c r
+  made-is-paper r m =
       record {
-        answered = answers-kept start xs (m .calls) ∙ ap (λ z. answers q offset c z (map callOf xs)) (m .opens .held);
-        held = e;
-        finished = f .answer;
-        sheet = f .sheet;
+        opened = m .opens .answer;
+        start = m .opens .held;
+        answered = answers-kept (startOf r) (r .calls) (m .calls);
+        held = held-kept (startOf r) (r .calls) (m .calls);
+        finished = finish-outcome q offset c (r .lentAtEnd) (endOf r) (r .finish) (m .finishes);
+        sheet = m .finishes .sheet;
       }

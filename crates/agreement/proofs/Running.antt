@@ -12,7 +12,9 @@ use Rattle.audit_rules.specs.Settings.{Held, booksOf}
 use Rattle.audit_rules.specs.Fragment.{fragmentRefusal, fragmentBooked, fragmentAccepted, heldAfter}
 use Rattle.audit_rules.proofs.Checking.{fragment-checked}
 use Rattle.audit_rules.proofs.Booked.{refused-holds}
-use Rattle.agreement.specs.Meaning.{CanBeLeftOut}
+use Rattle.agreement.specs.Meaning.{isRefused, CanBeLeftOut}
+use Rattle.agreement.proofs.Accepting.{not-refused}
+use Rattle.lists.proofs.Cases.{clash}
 use Rattle.audit_rules.specs.Run.{Call, Answer, ifAccepted, answerTo, next, books, answers, after, history}
 
 -- ---- a fragment's own refusal
@@ -22,7 +24,7 @@ module _ (q offset : ℕ) (c : Catalogue) (h : Held) (x : Call) where
   refusal = fragmentRefusal q offset c (x .lent) h (x .fragment) (entryCount (x .entries))
 
   -- a refused one leaves state and counters as they were
-  pub refused-leaves : (refusal ≡ 0 → ⊥) → next q offset c h x ≡ h
+  refused-leaves : (refusal ≡ 0 → ⊥) → next q offset c h x ≡ h
   refused-leaves ne = refused-holds refusal ne (fragmentAccepted q offset c (x .lent) h (x .fragment)) h
 
   -- the books after a call are those before it with what it books
@@ -65,9 +67,11 @@ module _ (q offset : ℕ) (c : Catalogue) where
   answers-append h [] ys = refl
   answers-append h (x ∷ xs) ys = ap {B = List Answer} (λ l. answerTo q offset c h x ∷ l) (answers-append (next q offset c h x) xs ys)
 
-  -- a call that leaves state and counters as they were
-  pub spare-call : (h : Held) (xs : List Call) (x : Call) (ys : List Call) → next q offset c (after q offset c h xs) x ≡ after q offset c h xs → CanBeLeftOut q offset c h xs x ys
-  spare-call h xs x ys e =
+  -- a refused call leaves state and counters as they were, so that it can be left out
+  pub spare-call : (h : Held) (xs : List Call) (x : Call) (ys : List Call) → isRefused (answerTo q offset c (after q offset c h xs) x .rows) ≡ true → CanBeLeftOut q offset c h xs x ys
+  spare-call h xs x ys told =
+      let e : next q offset c (after q offset c h xs) x ≡ after q offset c h xs =
+      refused-leaves q offset c (after q offset c h xs) x (λ z. clash told (not-refused (refusal q offset c (after q offset c h xs) x) _ .0 z)) in
       record {
         held = after-append h xs (x ∷ ys) ∙ ap (λ i. after q offset c i ys) e ∙ sym (after-append h xs ys);
         with-it = answers-append h xs (x ∷ ys) ∙ ap {B = List Answer} (λ i. answers q offset c h xs ++ answerTo q offset c (after q offset c h xs) x ∷ answers q offset c i ys) e;

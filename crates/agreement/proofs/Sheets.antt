@@ -2,11 +2,11 @@
 -- Assumes nothing.
 use mathlib.Core.Path.{_≡_, refl, sym, ap, ap₂, subst, _∙_}
 use mathlib.Core.Bool.{Bool, true, false, not}
-use mathlib.Core.Logic.{inl, inr}
+use mathlib.Core.Logic.{_↔_, inl, inr}
 use mathlib.Core.List.{List, [], _∷_, map}
 use Prim.Native.Nat.{ℕ, zero, suc, _+_, _≤_, _<_}
 use native.Mathlib.Omega.{arith}
-use lib.ListN.{length, getD, replicate, length-map}
+use lib.ListN.{length, replicate}
 use lib.Dec.{eqb, leb}
 use borrow.Author.Tests.{eq-eqb, not-true}
 use Rattle.lists.specs.Filter.{every}
@@ -17,9 +17,8 @@ use Rattle.lists.proofs.Every.{every-∈, every-append}
 use Rattle.lists.specs.Triple.{Triple}
 use Rattle.promises.specs.Refusal.{accepted}
 use Rattle.promises.proofs.Refusing.{or-none, outcome-accepted}
-use Rattle.catalogue.specs.Catalogue.{Catalogue, Target, Valid, targets, isMapped, mapped, suppliedPlaces}
+use Rattle.catalogue.specs.Catalogue.{Catalogue, Target, Valid, targets, isMapped, suppliedPlaces}
 use Rattle.index.specs.Index.{mappedSequences}
-use Rattle.indexed_mapper.specs.Match.{rankOf}
 use Rattle.ledger.specs.Booking.{Booked, Counters, bookedAll, emptyLedger, emptyCounters, maxCounter, countable}
 use Rattle.ledger.specs.Balance.{countOf, balanced}
 use Rattle.ledger.specs.Counting.{readsIn, readsOf, anyIndeterminate, placementsOn, singlesOn, multiOn, Bookable, Counts}
@@ -34,14 +33,14 @@ use Rattle.audit_rules.specs.declared.sheet.Status.the-variants as statuses
 use Rattle.audit_rules.specs.declared.sheet.PlacementTotals.{PlacementTotals}
 use Rattle.audit_rules.specs.declared.sheet.Sheet.{Sheet}
 use Rattle.audit_rules.specs.Settings.{Held, booksOf, rolesOf, statesShown}
-use Rattle.audit_rules.specs.Observing.{mateBooked}
 use Rattle.audit_rules.specs.Opening.{IndexLent, started, openingRefusal, openingHeld, opened}
 use Rattle.audit_rules.specs.Sheet.{shown, totalsOf, runStatus, sheetOf, roleShown, targetShown, finishRefusal, finishAnswer}
 use Rattle.audit_rules.specs.Run.{Call, after, history}
 use Rattle.audit_rules.proofs.Opening.{opening-passed, opening-number}
-use Rattle.audit_rules.proofs.Catalogues.{places-ranked, target-ranked}
-use Rattle.agreement.specs.Meaning.{SheetMeans}
-use Rattle.agreement.proofs.Booking.{shown-few, state-shown, read-bookable, settings-after, history-all}
+use Rattle.audit_rules.proofs.Catalogues.{places-ranked, target-inside}
+use Rattle.agreement.specs.Meaning.{isRefused, SheetMeans}
+use Rattle.agreement.proofs.Accepting.{not-refused}
+use Rattle.agreement.proofs.Booking.{shown-few, state-shown, mate-bookable, settings-after, history-all}
 use Rattle.agreement.proofs.Running.{after-books, after-countable}
 
 -- ---- roles, states, statuses
@@ -90,17 +89,14 @@ module _ (q offset : ℕ) (c : Catalogue) (lent : IndexLent) (s : Settings) (k :
   start-is : start ≡ started c s
   start-is = ap (λ n. opened n c s k) begun
 
-  ranked-many : length (mappedSequences c) ≡ length (suppliedPlaces c)
-  ranked-many = length-map (mapped c) _ ∙ sym (length-map (mapped c) _)
-
   bookable : (b : Booked) → b ∈ booked → Bookable (length (suppliedPlaces c)) b
   bookable = history-all q offset c s (Bookable (length (suppliedPlaces c)))
-      (λ way r. subst (λ n. Bookable n (mateBooked offset s (mappedSequences c) way r)) ranked-many (read-bookable offset s (mappedSequences c) way r)) start (ap (λ (h : Held). h .state .settings) start-is) xs
+      (mate-bookable c offset s) start (ap (λ (h : Held). h .state .settings) start-is) xs
 
   -- what the state and the counters count
-  pub run-counts : Counts (suppliedPlaces c) booked (booksOf end)
+  pub run-counts : Counts (length (targets c)) (suppliedPlaces c) booked (booksOf end)
   run-counts =
-      subst (Counts (suppliedPlaces c) booked) (sym (after-books q offset c start xs ∙ ap (λ h. bookedAll (suppliedPlaces c) booked (booksOf h)) start-is))
+      subst (Counts (length (targets c)) (suppliedPlaces c) booked) (sym (after-books q offset c start xs ∙ ap (λ h. bookedAll (suppliedPlaces c) booked (booksOf h)) start-is))
       (booked-counts (length (targets c)) (suppliedPlaces c) (places-ranked c (opening-passed q offset c lent s k begun .catalogue)) booked bookable)
 
   settings-end : end .state .settings ≡ s
@@ -111,7 +107,7 @@ module _ (q offset : ℕ) (c : Catalogue) (lent : IndexLent) (s : Settings) (k :
   pub sheet-means : (lent′ : IndexLent) (sheet : Sheet) → finishAnswer q offset c lent′ end ≡ accepted sheet → SheetMeans c s booked sheet (end .counters)
   sheet-means lent′ sheet e = subst (λ (x : Sheet). SheetMeans c s booked x (end .counters)) (outcome-accepted (finishRefusal q offset c lent′ end) (sheetOf end) sheet e .1) means
     where
-      n : Counts (suppliedPlaces c) booked (booksOf end)
+      n : Counts (length (targets c)) (suppliedPlaces c) booked (booksOf end)
       n = run-counts
 
       right : Valid c
@@ -124,15 +120,11 @@ module _ (q offset : ℕ) (c : Catalogue) (lent : IndexLent) (s : Settings) (k :
       status-is = ap₂ runStatus (ap (λ (x : Settings). x .remap) settings-end) (n .indeterminate)
 
       linear : (t : Target) → t ∈ targets c → isMapped t ≡ true
-          → targetShown (sheetOf end) (end .counters) t ≡ shown status (totalsOf (placementsOn (rankOf c (t .place)) booked) (singlesOn (rankOf c (t .place)) booked) (multiOn (rankOf c (t .place)) booked))
+          → targetShown (sheetOf end) (end .counters) t
+          ≡ shown status (totalsOf (placementsOn (suppliedPlaces c) (t .place) booked) (singlesOn (suppliedPlaces c) (t .place) booked) (multiOn (suppliedPlaces c) (t .place) booked))
       linear t m on =
-          let r = target-ranked c right t m on in
-          let at : (l : List ℕ) → getD l (t .place) 0 ≡ getD l (getD (suppliedPlaces c) (rankOf c (t .place)) 0) 0 = λ l. ap (λ p. getD l p 0) (sym (r .1)) in
-          rw (on, status-shown)
-          (ap₂ shown status-is (totals-are
-          (at (end .counters .placements) ∙ n .placements (rankOf c (t .place)) (r .0))
-          (at (end .counters .singles) ∙ n .singles (rankOf c (t .place)) (r .0))
-          (at (end .counters .multi) ∙ n .multi (rankOf c (t .place)) (r .0))))
+          let i = target-inside c right t m in
+          rw (on, status-shown) (ap₂ shown status-is (totals-are (n .placements (t .place) i) (n .singles (t .place) i) (n .multi (t .place) i)))
 
       means : SheetMeans c s booked (sheetOf end) (end .counters)
       means =
@@ -159,7 +151,7 @@ module _ (q offset : ℕ) (c : Catalogue) (lent : IndexLent) (s : Settings) (k :
 
   end-balanced : balanced (rolesOf (s .mode)) (statesShown (s .remap)) (booksOf end) ≡ true
   end-balanced =
-      counts-balanced (suppliedPlaces c) booked (booksOf end) run-counts end-countable (rolesOf (s .mode)) (statesShown (s .remap))
+      counts-balanced (length (targets c)) (suppliedPlaces c) booked (booksOf end) run-counts end-countable (rolesOf (s .mode)) (statesShown (s .remap))
       (shown-roles (s .mode)) (distinct-states (s .remap)) (shown-few (s .remap)) shown-states end-reads
 
   -- `finish` makes the opening's checks, and no more can refuse it
@@ -170,6 +162,12 @@ module _ (q offset : ℕ) (c : Catalogue) (lent : IndexLent) (s : Settings) (k :
   -- so it is never refused 18
   pub never-apart : (lent′ : IndexLent) → finishRefusal q offset c lent′ end ≡ 18 → ⊥
   never-apart lent′ e = omega (arith, opening-number q offset c lent′ s (end .counters) .0, sym (finish-opens lent′) ∙ e)
+
+  -- it is accepted exactly where they pass
+  pub finish-accepted : (lent′ : IndexLent) → (openingRefusal q offset c lent′ s (end .counters) ≡ 0) ↔ (isRefused (finishAnswer q offset c lent′ end) ≡ false)
+  finish-accepted lent′ =
+      let o = not-refused (finishRefusal q offset c lent′ end) (sheetOf end) in
+      (λ e. o .0 (finish-opens lent′ ∙ e), λ e. sym (finish-opens lent′) ∙ o .1 e)
 
   -- an accepted one shows as many reads of a role, over its states, as were booked
   pub role-shown : (lent′ : IndexLent) (sheet : Sheet) → finishAnswer q offset c lent′ end ≡ accepted sheet → (role : ℕ) → role ∈ rolesOf (sheet .mode)

@@ -3,3 +3,4 @@ pub mod Meaning
 pub mod Twins
 pub mod Examples
 pub mod Made
+pub mod Promised

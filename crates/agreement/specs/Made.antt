@@ -2,19 +2,20 @@
 use mathlib.Core.Path.{_≡_}
 use mathlib.Core.List.{List, [], _∷_, map}
 use Prim.Native.Nat.{ℕ}
-use Rattle.promises.specs.Refusal.{outcome}
+use Rattle.promises.specs.Refusal.{Outcome, outcome}
 use Rattle.catalogue.specs.Catalogue.{Catalogue}
 use Rattle.ledger.specs.Booking.{Counters}
 use Rattle.audit_rules.specs.declared.calls.Opening.{Opening}
 use Rattle.audit_rules.specs.declared.calls.FragmentAudit.{FragmentAudit}
 use Rattle.audit_rules.specs.declared.calls.Finish.{Finish}
 use Rattle.audit_rules.specs.declared.settings.Settings.{Settings}
+use Rattle.audit_rules.specs.declared.sheet.Sheet.{Sheet}
 use Rattle.audit_rules.specs.Settings.{Held}
-use Rattle.audit_rules.specs.Opening.{IndexLent, openingHeld}
+use Rattle.audit_rules.specs.Opening.{IndexLent, openingRefusal, openingHeld}
 use Rattle.audit_rules.specs.Fragment.{Fragment}
-use Rattle.audit_rules.specs.Sheet.{finishRefusal}
+use Rattle.audit_rules.specs.Sheet.{finishRefusal, finishAnswer}
 use Rattle.audit_rules.specs.Run.{Call, Answer, answers, after}
-use Rattle.audit_rules.specs.Calls.{callOutcome, fragmentOutcome, sheetAfter, Opens, Audits, Finishes}
+use Rattle.audit_rules.specs.Calls.{callOutcome, fragmentOutcome, finishOutcome, sheetAfter, Opens, Audits, Finishes}
 
 -- a fragment call: what it was lent, what it answered, and the counters and entries that it left
 pub record MadeCall : Type 0 where
@@ -44,22 +45,46 @@ abbrev pub heldBehind : Held → List MadeCall → Held
 heldBehind h [] = h
 heldBehind h (x ∷ xs) = heldBehind (heldBy x) xs
 
-module _ (q offset : ℕ) (c : Catalogue) (lent : IndexLent) (s : Settings) (k : Counters) (opening : Opening) (k′ : Counters) (xs : List MadeCall) (lent′ : IndexLent) (finish : Finish) where
-  abbrev start : Held
-  start = record { state = opening .state; counters = k′ }
+-- a run: the opening with what it was given and the counters before and behind it, fragment calls, and `finish` with what it was lent
+pub record MadeRun : Type 0 where
+  pub settings : Settings
+  pub lent : IndexLent
+  pub before : Counters
+  pub opening : Opening
+  pub counters : Counters
+  pub calls : List MadeCall
+  pub lentAtEnd : IndexLent
+  pub finish : Finish
 
+-- what is held behind its opening, and at its end
+abbrev pub startOf : MadeRun → Held
+startOf r = record { state = r .opening .state; counters = r .counters }
+
+abbrev pub endOf : MadeRun → Held
+endOf r = heldBehind (startOf r) (r .calls)
+
+-- what its calls were lent, what they answered, and what `finish` did
+abbrev pub callsOf : MadeRun → List Call
+callsOf r = map callOf (r .calls)
+
+abbrev pub answersOf : MadeRun → List Answer
+answersOf r = map answerOf (r .calls)
+
+abbrev pub finishOf : MadeRun → Outcome Sheet
+finishOf r = finishOutcome (r .finish)
+
+module _ (q offset : ℕ) (c : Catalogue) (r : MadeRun) where
   -- an opening, fragment calls and `finish`, each as it promises
   pub record RunMade : Type 0 where
-    pub opens : Opens q offset c lent s k opening k′
-    pub calls : AllKept q offset c start xs
-    pub finishes : Finishes q offset c lent′ (heldBehind start xs) finish
+    pub opens : Opens q offset c (r .lent) (r .settings) (r .before) (r .opening) (r .counters)
+    pub calls : AllKept q offset c (startOf r) (r .calls)
+    pub finishes : Finishes q offset c (r .lentAtEnd) (endOf r) (r .finish)
 
-  abbrev end : Held
-  end = after q offset c (openingHeld q offset c lent s k) (map callOf xs)
-
-  -- then the run is that of the definitions: its answers, what is held at its end, and its sheet
+  -- then the run is that of the definitions: what it starts from, its answers, what is held at its end, and what `finish` answers
   pub record RunIsPaper : Type 0 where
-    pub answered : map answerOf xs ≡ answers q offset c (openingHeld q offset c lent s k) (map callOf xs)
-    pub held : heldBehind start xs ≡ end
-    pub finished : callOutcome (finish .answer) ≡ outcome (finishRefusal q offset c lent′ end) tt
-    pub sheet : finish .sheet ≡ sheetAfter (finishRefusal q offset c lent′ end) end
+    pub opened : callOutcome (r .opening .answer) ≡ outcome (openingRefusal q offset c (r .lent) (r .settings) (r .before)) tt
+    pub start : startOf r ≡ openingHeld q offset c (r .lent) (r .settings) (r .before)
+    pub answered : answersOf r ≡ answers q offset c (startOf r) (callsOf r)
+    pub held : endOf r ≡ after q offset c (startOf r) (callsOf r)
+    pub finished : finishOf r ≡ finishAnswer q offset c (r .lentAtEnd) (endOf r)
+    pub sheet : r .finish .sheet ≡ sheetAfter (finishRefusal q offset c (r .lentAtEnd) (endOf r)) (endOf r)

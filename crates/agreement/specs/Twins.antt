@@ -1,8 +1,8 @@
 -- Two audits of one list of calls: the first by the index, the second at every start, which gets some reads turned round. Demand 3.
 use mathlib.Core.Path.{_≡_}
-use mathlib.Core.Bool.{Bool, true, false, cond}
-use mathlib.Core.List.{List, [], _∷_, map}
-use Prim.Native.Nat.{ℕ, _+_, _*_, _≤_}
+use mathlib.Core.Bool.{Bool, false, cond}
+use mathlib.Core.List.{List, map}
+use Prim.Native.Nat.{ℕ, _*_, _≤_}
 use Rattle.lists.specs.Cut.{window}
 use Rattle.promises.specs.Refusal.{Outcome, refused, accepted}
 use Rattle.bases.specs.Read.{turned}
@@ -15,8 +15,10 @@ use Rattle.audit_rules.specs.Settings.{Held}
 use Rattle.audit_rules.specs.Opening.{columns, none}
 use Rattle.audit_rules.specs.Observing.{MateRead}
 use Rattle.audit_rules.specs.Fragment.{shareOf}
-use Rattle.audit_rules.specs.Sheet.{finishAnswer, targetsShown}
-use Rattle.audit_rules.specs.Run.{Call, Answer, answers, after}
+use Rattle.audit_rules.specs.Sheet.{targetsShown}
+use Rattle.audit_rules.specs.Run.{Call, Answer}
+use Rattle.lists.specs.Each.{Each}
+use Rattle.agreement.specs.Meaning.{isRefused}
 use Rattle.agreement.specs.Placements.{placementsIn, placementsIf}
 
 -- ---- one list of calls for both
@@ -66,15 +68,17 @@ pub record ReadAgrees (c : Catalogue) (t : TwinRead) (a b : Row) (part part′ :
   pub placements : placementsIn (b .groups) part′ ≡ placementsIf (t .turns) c (placementsIn (a .groups) part)
   pub fewer : t .turns ≡ false → a .work .comparisons ≤ b .work .comparisons
 
--- the reads of a fragment, in parts of the entries, the first of which start at `from` and `from′`
-abbrev pub ReadsAgree : Catalogue → ℕ → ℕ → ℕ → ℕ → List TwinRead → List Row → List Row → List ℕ → List ℕ → Type 0
-ReadsAgree c width width′ from from′ [] [] [] entries entries′ = Unit {0}
-ReadsAgree c width width′ from from′ [] [] (b ∷ seconds) entries entries′ = ⊥
-ReadsAgree c width width′ from from′ [] (a ∷ firsts) seconds entries entries′ = ⊥
-ReadsAgree c width width′ from from′ (t ∷ ts) [] seconds entries entries′ = ⊥
-ReadsAgree c width width′ from from′ (t ∷ ts) (a ∷ firsts) [] entries entries′ = ⊥
-ReadsAgree c width width′ from from′ (t ∷ ts) (a ∷ firsts) (b ∷ seconds) entries entries′ =
-    ReadAgrees c t a b (window entries from width) (window entries′ from′ width′) × ReadsAgree c width width′ (from + width) (from′ + width′) ts firsts seconds entries entries′
+-- a read's row in each audit
+pub record TwinRow : Type 0 where
+  pub first : Row
+  pub second : Row
+
+-- the reads of a fragment, in parts of the entries one behind the other
+pub record ReadsAgree (c : Catalogue) (width width′ : ℕ) (ts : List TwinRead) (firsts seconds : List Row) (entries entries′ : List ℕ) : Type 0 where
+  pub rows : List TwinRow
+  pub firsts-are : map (λ (x : TwinRow). x .first) rows ≡ firsts
+  pub seconds-are : map (λ (x : TwinRow). x .second) rows ≡ seconds
+  pub each : Each (λ i (t : TwinRead) (x : TwinRow). ReadAgrees c t (x .first) (x .second) (window entries (width * i) width) (window entries′ (width′ * i) width′)) 0 ts rows
 
 -- an accepted call: each read agrees; a refused one answers nothing
 abbrev pub RowsAgree : Settings → Catalogue → TwinCall → Outcome (List Row) → Outcome (List Row) → List ℕ → List ℕ → Type 0
@@ -82,36 +86,32 @@ RowsAgree s c x (refused m) (refused n) entries entries′ = Unit {0}
 RowsAgree s c x (refused m) (accepted seconds) entries entries′ = ⊥
 RowsAgree s c x (accepted firsts) (refused n) entries entries′ = ⊥
 RowsAgree s c x (accepted firsts) (accepted seconds) entries entries′ =
-    ReadsAgree c (4 * shareOf (s .mode) (entryCount (x .entries))) (4 * shareOf (s .mode) (entryCount (x .plainEntries))) 0 0 (x .reads) firsts seconds entries entries′
+    ReadsAgree c (4 * shareOf (s .mode) (entryCount (x .entries))) (4 * shareOf (s .mode) (entryCount (x .plainEntries))) (x .reads) firsts seconds entries entries′
+
+-- what each audit answers to a call
+pub record TwinAnswer : Type 0 where
+  pub first : Answer
+  pub second : Answer
 
 -- call by call
-abbrev pub CallsAgree : Settings → Catalogue → List TwinCall → List Answer → List Answer → Type 0
-CallsAgree s c [] [] [] = Unit {0}
-CallsAgree s c [] [] (b ∷ seconds) = ⊥
-CallsAgree s c [] (a ∷ firsts) seconds = ⊥
-CallsAgree s c (x ∷ xs) [] seconds = ⊥
-CallsAgree s c (x ∷ xs) (a ∷ firsts) [] = ⊥
-CallsAgree s c (x ∷ xs) (a ∷ firsts) (b ∷ seconds) = RowsAgree s c x (a .rows) (b .rows) (a .entries) (b .entries) × CallsAgree s c xs firsts seconds
+pub record CallsAgree (s : Settings) (c : Catalogue) (xs : List TwinCall) (firsts seconds : List Answer) : Type 0 where
+  pub answered : List TwinAnswer
+  pub firsts-are : map (λ (a : TwinAnswer). a .first) answered ≡ firsts
+  pub seconds-are : map (λ (a : TwinAnswer). a .second) answered ≡ seconds
+  pub each : Each (λ i (x : TwinCall) (a : TwinAnswer). RowsAgree s c x (a .first .rows) (a .second .rows) (a .first .entries) (a .second .entries)) 0 xs answered
 
 -- ---- both runs
 
-abbrev pub isRefused : {A : Type 0} → Outcome A → Bool
-isRefused (refused n) = true
-isRefused (accepted a) = false
-
+-- which calls are refused
 abbrev pub refusals : List Answer → List Bool
 refusals answered = map (λ (a : Answer). isRefused (a .rows)) answered
 
-module _ (q offset : ℕ) (c : Catalogue) (ks rs os : List ℕ) (h h′ : Held) (xs : List TwinCall) where
-  -- no call is refused by one audit alone, nor is `finish`, at which the first is lent the columns
-  pub record RefusedTogether : Type 0 where
-    pub calls : refusals (answers q offset c h (map indexedCall xs)) ≡ refusals (answers q offset c h′ (map plainCall xs))
-    pub finish : isRefused (finishAnswer q offset c (columns ks rs os) (after q offset c h (map indexedCall xs))) ≡ isRefused (finishAnswer q offset c none (after q offset c h′ (map plainCall xs)))
+-- no call is refused by one audit alone
+abbrev pub RefusedTogether : List Answer → List Answer → Type 0
+RefusedTogether firsts seconds = refusals firsts ≡ refusals seconds
 
-  -- every read of an accepted call agrees; an accepted `finish` has the same sheet and shows the same of each target
-  pub record RunsAgree (s : Settings) : Type 0 where
-    pub calls : CallsAgree s c xs (answers q offset c h (map indexedCall xs)) (answers q offset c h′ (map plainCall xs))
-    pub sheets :
-        (a b : Sheet) → finishAnswer q offset c (columns ks rs os) (after q offset c h (map indexedCall xs)) ≡ accepted a
-        → finishAnswer q offset c none (after q offset c h′ (map plainCall xs)) ≡ accepted b
-        → (a ≡ b) × (targetsShown a (after q offset c h (map indexedCall xs) .counters) c ≡ targetsShown b (after q offset c h′ (map plainCall xs) .counters) c)
+-- what both answered, what each held at its end, and what `finish` answered: every read of an accepted call agrees; accepted sheets are the
+-- same, and show the same of each target
+pub record RunsAgree (s : Settings) (c : Catalogue) (xs : List TwinCall) (firsts seconds : List Answer) (end end′ : Held) (finish finish′ : Outcome Sheet) : Type 0 where
+  pub calls : CallsAgree s c xs firsts seconds
+  pub sheets : (a b : Sheet) → finish ≡ accepted a → finish′ ≡ accepted b → (a ≡ b) × (targetsShown a (end .counters) c ≡ targetsShown b (end′ .counters) c)

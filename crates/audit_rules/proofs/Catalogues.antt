@@ -1,22 +1,21 @@
 -- The ranks of a valid catalogue as an audit counts by them.
 -- Assumes nothing.
-use mathlib.Core.Path.{_≡_, refl, sym, ap, _∙_}
-use mathlib.Core.Bool.{Bool, true}
+use mathlib.Core.Path.{refl}
+use mathlib.Core.Bool.{Bool}
 use mathlib.Core.Logic.{inl, inr}
 use mathlib.Core.List.{List, [], _∷_}
 use Prim.Native.Nat.{ℕ, suc, _+_, _<_}
 use native.Mathlib.Omega.{arith}
-use lib.ListN.{length, getD, length-map}
+use lib.ListN.{length}
 use Rattle.lists.specs.Member.{_∈_, Distinct}
 use Rattle.lists.specs.Order.{StrictOrder, Ascending}
-use Rattle.lists.proofs.Member.{∈-map, map-∈, ∈-getD}
+use Rattle.lists.proofs.Member.{map-∈}
 use Rattle.lists.proofs.Order.{later-differs}
 use Rattle.names.proofs.NameLaws.{place-order}
 use Rattle.names.specs.Name.{placeBefore}
-use Rattle.catalogue.specs.Catalogue.{Catalogue, Target, Valid, names, sequences, targetsFrom, targets, isMapped, mapped, suppliedPlaces}
-use Rattle.catalogue.proofs.Mapped.{mapped-∈, ∈-mapped}
-use Rattle.indexed_mapper.specs.Match.{rankOf}
-use Rattle.indexed_mapper.proofs.Matching.{places-ascend, rank-is}
+use Rattle.catalogue.specs.Catalogue.{Catalogue, Target, Valid, names, sequences, targetsFrom, targets, mapped, suppliedPlaces}
+use Rattle.catalogue.proofs.Mapped.{mapped-∈}
+use Rattle.indexed_mapper.proofs.Matching.{places-ascend}
 use Rattle.ledger.specs.Counting.{Ranked}
 
 -- in a list that ascends no element stands twice
@@ -39,9 +38,6 @@ module _ (c : Catalogue) (right : Valid c) where
           let i = place-inside 0 (names c) (sequences c) (c .marks) (r .0) (mapped-∈ c (r .0) (r .1) .0) in
           rw (r .2) (omega (arith, i))
 
-  -- a mapped target has a rank, and its place is that of the rank
-  pub target-ranked : (t : Target) → t ∈ targets c → isMapped t ≡ true → (rankOf c (t .place) < length (suppliedPlaces c)) × (getD (suppliedPlaces c) (rankOf c (t .place)) 0 ≡ t .place)
-  target-ranked t m on =
-      let r = ∈-getD 0 (t .place) (suppliedPlaces c) (∈-map (λ (u : Target). u .place) t (mapped c) (∈-mapped c t m on)) in
-      let e : rankOf c (t .place) ≡ r .0 = ap (rankOf c) (r .2) ∙ rank-is c right (r .0) (omega (arith, r .1, length-map (mapped c) (λ (u : Target). u .place))) in
-      (omega (arith, e, r .1), ap (λ n. getD (suppliedPlaces c) n 0) e ∙ sym (r .2))
+  -- a target stands among the others
+  pub target-inside : (t : Target) → t ∈ targets c → t .place < length (targets c)
+  target-inside t m = omega (arith, place-inside 0 (names c) (sequences c) (c .marks) t m)

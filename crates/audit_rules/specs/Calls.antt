@@ -68,6 +68,14 @@ abbrev pub callOutcome : CallAnswer → Outcome (Unit {0})
 callOutcome (calls.Refused n) = refused n
 callOutcome calls.Accepted = accepted tt
 
+-- `finish`: a refusal, or its sheet
+abbrev pub sheetOutcome : CallAnswer → Sheet → Outcome Sheet
+sheetOutcome (calls.Refused n) s = refused n
+sheetOutcome calls.Accepted s = accepted s
+
+abbrev pub finishOutcome : Finish → Outcome Sheet
+finishOutcome f = sheetOutcome (f .answer) (f .sheet)
+
 abbrev pub mappingRow : Mapping → Row
 mappingRow m = row (stateNumber (m .state)) (m .groups) (m .work)
 

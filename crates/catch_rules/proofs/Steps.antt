@@ -47,17 +47,17 @@ module _ (bytes : List ℕ) where
   pub begin-wrong : Refused settingsIn bytes → Ends beginning (1 ∷ bytes) (refusalLine 20)
   begin-wrong r more = still-ends beginning (1 ∷ bytes ++ more) (refusalLine 20) (when-refused settingsIn (λ t. goes [] (supplying t noTargets)) bytes r more)
 
-  pub begin-short : settingsIn bytes ≡ wrong → still beginning (1 ∷ bytes) ≡ refusalLine 20
-  begin-short e = still-ends beginning (1 ∷ bytes) (refusalLine 20) (when-short settingsIn (λ t. goes [] (supplying t noTargets)) bytes e)
+  pub begin-short : settingsIn bytes ≡ wrong → command beginning (1 ∷ bytes) ≡ refuses 20
+  begin-short e = when-short settingsIn (λ t. goes [] (supplying t noTargets)) bytes e
 
   pub begin-other : (code : ℕ) → (code ≡ 1 → ⊥) → Ends beginning (code ∷ bytes) (refusalLine 20)
   begin-other code ne more = still-ends beginning (code ∷ bytes ++ more) (refusalLine 20) (not-code code 1 _ (refuses 20) ne)
 
 -- no byte at all, at any stage
-pub none-left : (stage : Stage) → still stage [] ≡ refusalLine 20
-none-left beginning = still-ends beginning [] (refusalLine 20) refl
-none-left (supplying s c) = still-ends (supplying s c) [] (refusalLine 20) refl
-none-left (running c h) = still-ends (running c h) [] (refusalLine 20) refl
+pub none-left : (stage : Stage) → command stage [] ≡ refuses 20
+none-left beginning = refl
+none-left (supplying s c) = refl
+none-left (running c h) = refl
 
 -- ---- 02, and the opening
 
@@ -68,8 +68,8 @@ module _ (s : Settings) (c : Catalogue) (bytes : List ℕ) where
   pub supply-wrong : Refused (targetIn c) bytes → Ends (supplying s c) (2 ∷ bytes) (refusalLine 20)
   supply-wrong r more = still-ends (supplying s c) (2 ∷ bytes ++ more) (refusalLine 20) (when-refused (targetIn c) (λ d. goes [] (supplying s d)) bytes r more)
 
-  pub supply-short : targetIn c bytes ≡ wrong → still (supplying s c) (2 ∷ bytes) ≡ refusalLine 20
-  supply-short e = still-ends (supplying s c) (2 ∷ bytes) (refusalLine 20) (when-short (targetIn c) (λ d. goes [] (supplying s d)) bytes e)
+  pub supply-short : targetIn c bytes ≡ wrong → command (supplying s c) (2 ∷ bytes) ≡ refuses 20
+  supply-short e = when-short (targetIn c) (λ d. goes [] (supplying s d)) bytes e
 
   abbrev refusal : ℕ
   refusal = openingRefusal auditSeed auditOffset c (lentOf c) s (started c s .counters)
@@ -128,8 +128,8 @@ module _ (c : Catalogue) (h : Held) where
     pub fragment-wrong : Refused fragmentIn bytes → Ends (running c h) (3 ∷ bytes) (refusalLine 20)
     fragment-wrong r more = still-ends (running c h) (3 ∷ bytes ++ more) (refusalLine 20) (when-refused fragmentIn audit bytes r more)
 
-    pub fragment-short : fragmentIn bytes ≡ wrong → still (running c h) (3 ∷ bytes) ≡ refusalLine 20
-    fragment-short e = still-ends (running c h) (3 ∷ bytes) (refusalLine 20) (when-short fragmentIn audit bytes e)
+    pub fragment-short : fragmentIn bytes ≡ wrong → command (running c h) (3 ∷ bytes) ≡ refuses 20
+    fragment-short e = when-short fragmentIn audit bytes e
 
     pub run-other : (code : ℕ) → (code ≡ 3 → ⊥) → (code ≡ 5 → ⊥) → Ends (running c h) (code ∷ bytes) (refusalLine 20)
     run-other code three five more = still-ends (running c h) (code ∷ bytes ++ more) (refusalLine 20) (not-code code 3 _ _ three ∙ not-code code 5 _ (refuses 20) five)

@@ -2,14 +2,12 @@
 -- Assumes nothing.
 use mathlib.Core.Path.{_≡_, refl, sym, ap, ap₂, subst, _∙_}
 use mathlib.Core.Bool.{Bool, true, false, _&&_}
-use mathlib.Core.Logic.{_↔_}
 use mathlib.Core.List.{List, [], _∷_, map}
-use Prim.Native.Nat.{ℕ, zero, suc, _*_, _<_, _≤_}
-use native.Mathlib.Omega.{arith}
+use Prim.Native.Nat.{ℕ, _*_, _≤_}
 use lib.ListN.{length, take, length-map}
 use lib.Seq.{take-at}
 use lib.Dec.{ltb}
-use borrow.Author.Tests.{lt-ltb, ltb-true}
+use borrow.Author.Tests.{lt-ltb, le-ltb}
 use Rattle.lists.specs.Filter.{every}
 use Rattle.lists.proofs.Cases.{by-test, same-test}
 use Rattle.lists.proofs.Reverse.{every-reverse}
@@ -30,58 +28,36 @@ use Rattle.candidates.proofs.Candidates.{comparable-fewer}
 use Rattle.scan.specs.Entries.{entriesOf, entryCount, cleared}
 use Rattle.scan.proofs.Going.{length-entries}
 use Rattle.index_search.specs.Work.{work, scanWork, Way, byIndex, plain, workBy}
-use Rattle.answers.specs.Answer.{Row, answerOf, stateOf, listed, mappedRow, roomRefusal}
+use Rattle.answers.specs.Answer.{Row, answerOf, listed, mappedRow, roomRefusal}
 use Rattle.search.specs.Answered.{SearchAnswered}
 use Rattle.search.proofs.Listed.{row-groups}
 use Rattle.index_search.specs.declared.work.MappingWork.{MappingWork}
 use Rattle.answers.specs.declared.answer.MapAnswer.{MapAnswer}
 use Rattle.indexed_mapper.specs.Map.{readRefusal, rankedRefusal, mapRefusal, MapsTo}
-use Rattle.indexed_mapper.specs.Match.{Lists}
+use Rattle.indexed_mapper.specs.Match.{Unlisted, Listed, Lists}
 use Rattle.indexed_mapper.specs.Laws.{SearchesAgree, turnedGroups, TurnedAnswer}
 use Rattle.indexed_mapper.proofs.Mapping.{at-capitals}
 use Rattle.indexed_mapper.proofs.Matching.{matchesOf, matches-exactly, matches-ascend, matches-entries}
 
 -- ---- the row of a read
 
-determinate : (n : ℕ) → stateOf n ≡ 2 → ⊥
-determinate zero e = omega arith
-determinate (suc zero) e = omega arith
-determinate (suc (suc n)) e = omega arith
-
 module _ (limit : ℕ) (gs : List Place) (w : MappingWork) where
-  -- indeterminate exactly if there are more groups than the limit
-  row-indeterminate : (mappedRow limit gs w .state ≡ 2) ↔ (limit < length gs)
-  row-indeterminate = (
-    λ e. by-test (ltb limit (length gs)) (λ t. ltb-true limit (length gs) t) (λ t. absurd (determinate (length gs) (rw t at e))),
-    λ h. rw (lt-ltb limit (length gs) h),
-  )
-
-  few : (mappedRow limit gs w .state ≡ 2 → ⊥) → ltb limit (length gs) ≡ false
-  few ne = by-test (ltb limit (length gs)) (λ t. absurd (ne (rw t))) (λ t. t)
-
-  -- another state goes by the number of groups
-  pub row-number : (mappedRow limit gs w .state ≡ 2 → ⊥) → mappedRow limit gs w .state ≡ stateOf (mappedRow limit gs w .groups)
-  row-number ne = rw (few ne)
-
   -- the work is that of the search
   pub row-work : mappedRow limit gs w .work ≡ w
   row-work = by-test (ltb limit (length gs)) (λ t. rw t) (λ t. rw t)
 
 -- ---- one read whose groups stand in front of zeros: demand 2 for whoever searches
 
--- of a row that is not indeterminate the entries are exactly the matches, each once, ascending by rank, start and strand; the row is
--- indeterminate exactly if there are more matches than the limit
+-- the row is indeterminate where there are more matches than the limit; else the entries are the matches, each once, ascending by rank,
+-- start and strand
 pub row-lists : (c : Catalogue) → Valid c → (read : List ℕ) (limit : ℕ) (w : MappingWork) (b b′ : List ℕ)
     → b′ ≡ placed 0 (entriesOf (suppliedPlaces c) (length read) (listed limit (groups (mappedSequences c) read))) (cleared b)
     → Lists c read limit (mappedRow limit (groups (mappedSequences c) read) w) b b′
 row-lists c right read limit w b b′ e =
     record {
-      matches = matchesOf c right read;
-      exactly = matches-exactly c right read;
-      ascending = matches-ascend c right read;
-      indeterminate = rw as-many (row-indeterminate limit gs w);
-      number = λ ne. rw (few limit gs w ne, as-many);
-      entries = λ ne. rw (few limit gs w ne) at e ∙ ap (λ l. placed 0 l (cleared b)) (matches-entries c right read);
+      all = record { list = matchesOf c right read; exactly = matches-exactly c right read; ascending = matches-ascend c right read };
+      indeterminate = λ h. past (lt-ltb limit (length gs) (rw as-many at h));
+      complete = λ h. within (le-ltb limit (length gs) (rw as-many at h));
     }
   where
     gs : List Place
@@ -89,6 +65,17 @@ row-lists c right read limit w b b′ e =
 
     as-many : length (matchesOf c right read) ≡ length gs
     as-many = length-map gs _
+
+    past : ltb limit (length gs) ≡ true → Unlisted (mappedRow limit gs w) b b′
+    past t = record { state = rw t; groups = rw t; entries = rw t at e }
+
+    within : ltb limit (length gs) ≡ false → Listed (length read) (matchesOf c right read) (mappedRow limit gs w) b b′
+    within t =
+        record {
+          state = rw (t, as-many);
+          groups = rw (t, as-many);
+          entries = rw t at e ∙ ap (λ l. placed 0 l (cleared b)) (matches-entries c right read);
+        }
 
 -- ---- one answer: demand 2 for the mapper
 
@@ -105,8 +92,8 @@ module _ (q : ℕ) (c : Catalogue) (ks rs os read : List ℕ) (limit : ℕ) (r :
     unfolding mapRefusal indexRefusal
     right = plan-right q c (none-first (planRefusal q c) _ (none-first (indexRefusal q c ks rs os) _ (none .0))) .1
 
-    -- of an answer that is neither refused nor indeterminate the entries are exactly the matches, each once, ascending by
-    -- rank, start and strand; an accepted read is indeterminate exactly if it has more matches than the limit
+    -- an accepted read is indeterminate exactly if it has more matches than the limit; else the entries are exactly the matches, each
+    -- once, ascending by rank, start and strand
     pub map-lists : Lists c read limit a b b′
     map-lists =
         subst (λ (x : Row). Lists c read limit x b b′) (none .1)

@@ -3,7 +3,7 @@ use mathlib.Core.Path.{_≡_}
 use mathlib.Core.Bool.{Bool, true, cond}
 use mathlib.Core.Logic.{_↔_}
 use mathlib.Core.List.{List, [], _∷_, _++_}
-use Prim.Native.Nat.{ℕ, suc, _+_, _<_}
+use Prim.Native.Nat.{ℕ, suc, _+_, _<_, _≤_}
 use lib.ListN.{length}
 use lib.Dec.{eqb}
 use Rattle.lists.specs.Member.{_∈_}
@@ -14,7 +14,7 @@ use Rattle.catalogue.specs.Catalogue.{Catalogue, Target, targets, isMapped, sup
 use Rattle.seeds.specs.Window.{windowOf, FitsIn}
 use Rattle.seeds.specs.Seeds.{placed}
 use Rattle.scan.specs.Entries.{entryOf, cleared}
-use Rattle.answers.specs.Answer.{Row}
+use Rattle.answers.specs.Answer.{Row, stateOf}
 
 -- the read matches at a start and on a strand of the linear target supplied at a place: it ends within the target, and the
 -- target's bases from the start on are the read's, in upper case and as it lies on the strand
@@ -45,12 +45,26 @@ abbrev pub matchEntries : ℕ → List Triple → List ℕ
 matchEntries n [] = []
 matchEntries n (x ∷ xs) = entryOf (x .0) (x .1) (x .1 + n) (x .2) ++ matchEntries n xs
 
--- an accepted answer, held against all matches of the read, each once and ascending: it is indeterminate exactly if there are
--- more than the limit, and otherwise they are what is listed, in front of zeros
+-- all matches of the read, each once, ascending by rank, start and strand
+pub record Matches (c : Catalogue) (read : List ℕ) : Type 0 where
+  pub list : List Triple
+  pub exactly : (supplied start strand : ℕ) → ((supplied, start, strand) ∈ list) ↔ Match c read supplied start strand
+  pub ascending : Ascending (byRank c) list
+
+-- an indeterminate answer: no match is listed, and the entries are zero
+pub record Unlisted (answer : Row) (buffer buffer′ : List ℕ) : Type 0 where
+  pub state : answer .state ≡ 2
+  pub groups : answer .groups ≡ 0
+  pub entries : buffer′ ≡ cleared buffer
+
+-- a complete answer for a read of n bases: the state by the number of matches, and each match listed, in front of zeros
+pub record Listed (n : ℕ) (matches : List Triple) (answer : Row) (buffer buffer′ : List ℕ) : Type 0 where
+  pub state : answer .state ≡ stateOf (length matches)
+  pub groups : answer .groups ≡ length matches
+  pub entries : buffer′ ≡ placed 0 (matchEntries n matches) (cleared buffer)
+
+-- an accepted answer, held against all matches of the read: indeterminate where there are more than the limit, else complete
 pub record Lists (c : Catalogue) (read : List ℕ) (limit : ℕ) (answer : Row) (buffer buffer′ : List ℕ) : Type 0 where
-  pub matches : List Triple
-  pub exactly : (supplied start strand : ℕ) → ((supplied, start, strand) ∈ matches) ↔ Match c read supplied start strand
-  pub ascending : Ascending (byRank c) matches
-  pub indeterminate : (answer .state ≡ 2) ↔ (limit < length matches)
-  pub number : (answer .state ≡ 2 → ⊥) → answer .groups ≡ length matches
-  pub entries : (answer .state ≡ 2 → ⊥) → buffer′ ≡ placed 0 (matchEntries (length read) matches) (cleared buffer)
+  pub all : Matches c read
+  pub indeterminate : limit < length (all .list) → Unlisted answer buffer buffer′
+  pub complete : length (all .list) ≤ limit → Listed (length read) (all .list) answer buffer buffer′

@@ -85,7 +85,7 @@ module _ (books : Books) (c : countable books ≡ true) where
 agrees : (ns : List ℕ) (total : ℕ) → sum ns ≡ total → total ≤ maxCounter → agree ns total ≡ true
 agrees ns total e h = rw (le-leb (sum ns) maxCounter (omega arith), eq-eqb (sum ns) total e)
 
-module _ (ranked : List ℕ) (bs : List Booked) (books : Books) (k : Counts ranked bs books) (c : countable books ≡ true) where
+module _ (n : ℕ) (ranked : List ℕ) (bs : List Booked) (books : Books) (k : Counts n ranked bs books) (c : countable books ≡ true) where
   -- the counts of a role
   role-agrees : (states : List ℕ) → Distinct states → ((s : ℕ) → s ∈ states → s < 6) → ((b : Booked) → b ∈ bs → b .state ∈ states) → (role : ℕ) → role < 3 → role < length (books .ledger .reads) → roleAgrees states (books .ledger) role ≡ true
   role-agrees states d hs hb role h l =

@@ -26,14 +26,14 @@ pub empty-sized : (n : ℕ) → Sized n (emptyBooks n)
 empty-sized n = record { table = refl; reads = refl; placements = length-replicate n 0; singles = length-replicate n 0; multi = length-replicate n 0 }
 
 -- what was added to nothing is counted
-grown-counts : (n : ℕ) (ranked : List ℕ) (bs : List Booked) (books : Books) → Grown ranked bs (emptyBooks n) books → Counts ranked bs books
+grown-counts : (n : ℕ) (ranked : List ℕ) (bs : List Booked) (books : Books) → Grown n ranked bs (emptyBooks n) books → Counts n ranked bs books
 grown-counts n ranked bs books g =
     record {
       states = λ role state hr hs. omega (arith, g .states role state hr hs, getD-zeros 18 (cell role state));
       reads = λ role hr. omega (arith, g .reads role hr, getD-zeros 3 role);
-      placements = λ rank h. omega (arith, g .placements rank h, getD-zeros n (getD ranked rank 0));
-      singles = λ rank h. omega (arith, g .singles rank h, getD-zeros n (getD ranked rank 0));
-      multi = λ rank h. omega (arith, g .multi rank h, getD-zeros n (getD ranked rank 0));
+      placements = λ t h. omega (arith, g .placements t h, getD-zeros n t);
+      singles = λ t h. omega (arith, g .singles t h, getD-zeros n t);
+      multi = λ t h. omega (arith, g .multi t h, getD-zeros n t);
       unranked = λ t h. (g .other-placements t h ∙ getD-zeros n t, g .other-singles t h ∙ getD-zeros n t, g .other-multi t h ∙ getD-zeros n t);
       total-placements = omega (arith, g .total-placements, sum-replicate n);
       total-singles = omega (arith, g .total-singles, sum-replicate n);
@@ -42,5 +42,5 @@ grown-counts n ranked bs books g =
     }
 
 -- reads booked into empty books are counted
-pub booked-counts : (n : ℕ) (ranked : List ℕ) → Ranked n ranked → (bs : List Booked) → ((b : Booked) → b ∈ bs → Bookable (length ranked) b) → Counts ranked bs (bookedAll ranked bs (record { ledger = emptyLedger; counters = emptyCounters n }))
+pub booked-counts : (n : ℕ) (ranked : List ℕ) → Ranked n ranked → (bs : List Booked) → ((b : Booked) → b ∈ bs → Bookable (length ranked) b) → Counts n ranked bs (bookedAll ranked bs (record { ledger = emptyLedger; counters = emptyCounters n }))
 booked-counts n ranked r bs k = grown-counts n ranked bs (bookedAll ranked bs (emptyBooks n)) (booked-grown n ranked r bs k (emptyBooks n) (empty-sized n))

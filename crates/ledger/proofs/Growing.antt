@@ -3,7 +3,7 @@
 use mathlib.Core.Path.{_≡_, refl, sym, ap, _∙_}
 use mathlib.Core.Bool.{Bool, true, false, _&&_, _||_, or-assoc}
 use mathlib.Core.Logic.{inl, inr}
-use mathlib.Core.List.{List, [], _∷_, _++_, append-nil, append-assoc}
+use mathlib.Core.List.{List, [], _∷_, _++_, append-nil, append-assoc, map-append}
 use Prim.Native.Nat.{ℕ, _+_, _<_}
 use native.Mathlib.Omega.{arith}
 use lib.ListN.{length, getD, length-append}
@@ -14,7 +14,6 @@ use Rattle.lists.specs.Member.{_∈_}
 use Rattle.lists.specs.Raised.{raised}
 use Rattle.lists.specs.Sum.{sum}
 use Rattle.lists.proofs.Cases.{by-test, clash, and-true}
-use Rattle.lists.proofs.Member.{getD-∈}
 use Rattle.lists.proofs.Filter.{filter-append}
 use Rattle.lists.proofs.Raised.{raised-here, raised-elsewhere, raisedAt-times, raisedAt-other}
 use Rattle.lists.proofs.Sum.{sum-raisedAt}
@@ -22,7 +21,7 @@ use Rattle.places.specs.Place.{Place}
 use Rattle.ledger.specs.Booking.{Booked, Books, cell, targetsOf, singleTargets, multiTargets, bookedOne, bookedAll}
 use Rattle.ledger.specs.Balance.{countOf}
 use Rattle.ledger.specs.Counting.{readsIn, readsOf, anyIndeterminate, groupsOn, allGroups, liesOn, placementsOn, singlesOn, multiOn, Bookable, Ranked}
-use Rattle.ledger.proofs.Targets.{targets-times, single-times, multi-times, targets-∈, single-∈, multi-∈}
+use Rattle.ledger.proofs.Targets.{single-times, multi-times, targets-∈, single-∈, multi-∈}
 use Rattle.ledger.proofs.Booking.{one-lengths}
 
 -- books of 18 counts, 3 roles and n targets
@@ -34,12 +33,12 @@ pub record Sized (n : ℕ) (books : Books) : Type 0 where
   pub multi : length (books .counters .multi) ≡ n
 
 -- what the reads add to each number
-pub record Grown (ranked : List ℕ) (bs : List Booked) (books after : Books) : Type 0 where
+pub record Grown (n : ℕ) (ranked : List ℕ) (bs : List Booked) (books after : Books) : Type 0 where
   pub states : (role state : ℕ) → role < 3 → state < 6 → countOf (after .ledger .table) role state ≡ countOf (books .ledger .table) role state + readsIn role state bs
   pub reads : (role : ℕ) → role < 3 → getD (after .ledger .reads) role 0 ≡ getD (books .ledger .reads) role 0 + readsOf role bs
-  pub placements : (rank : ℕ) → rank < length ranked → getD (after .counters .placements) (getD ranked rank 0) 0 ≡ getD (books .counters .placements) (getD ranked rank 0) 0 + placementsOn rank bs
-  pub singles : (rank : ℕ) → rank < length ranked → getD (after .counters .singles) (getD ranked rank 0) 0 ≡ getD (books .counters .singles) (getD ranked rank 0) 0 + singlesOn rank bs
-  pub multi : (rank : ℕ) → rank < length ranked → getD (after .counters .multi) (getD ranked rank 0) 0 ≡ getD (books .counters .multi) (getD ranked rank 0) 0 + multiOn rank bs
+  pub placements : (t : ℕ) → t < n → getD (after .counters .placements) t 0 ≡ getD (books .counters .placements) t 0 + placementsOn ranked t bs
+  pub singles : (t : ℕ) → t < n → getD (after .counters .singles) t 0 ≡ getD (books .counters .singles) t 0 + singlesOn ranked t bs
+  pub multi : (t : ℕ) → t < n → getD (after .counters .multi) t 0 ≡ getD (books .counters .multi) t 0 + multiOn ranked t bs
   pub other-placements : (t : ℕ) → (t ∈ ranked → ⊥) → getD (after .counters .placements) t 0 ≡ getD (books .counters .placements) t 0
   pub other-singles : (t : ℕ) → (t ∈ ranked → ⊥) → getD (after .counters .singles) t 0 ≡ getD (books .counters .singles) t 0
   pub other-multi : (t : ℕ) → (t ∈ ranked → ⊥) → getD (after .counters .multi) t 0 ≡ getD (books .counters .multi) t 0
@@ -56,10 +55,7 @@ added at ns i b true h f g = omega (arith, raised-here at ns i h (f refl))
 added at ns i b false h f g = omega (arith, raised-elsewhere at ns i (λ e. clash (g e) refl))
 
 module _ (n : ℕ) (ranked : List ℕ) (r : Ranked n ranked) (b : Booked) (k : Bookable (length ranked) b) (books : Books) (s : Sized n books) where
-  -- the target of a rank is one of the n, and so is each target of the read
-  of-rank : (rank : ℕ) → rank < length ranked → getD ranked rank 0 < n
-  of-rank rank h = r .inside (getD ranked rank 0) (getD-∈ 0 ranked rank h)
-
+  -- each target of the read has a rank
   of-read : (t : ℕ) → t ∈ targetsOf ranked (b .groups) → t ∈ ranked
   of-read = targets-∈ ranked (b .groups) (k .ranked)
 
@@ -80,30 +76,15 @@ module _ (n : ℕ) (ranked : List ℕ) (r : Ranked n ranked) (b : Booked) (k : B
       added _ (books .ledger .reads) role b (eqb (b .role) role) (omega (arith, s .reads)) (λ e. omega (arith, eqb-true (b .role) role e)) (λ e. eq-eqb (b .role) role (omega arith))
 
   -- a read that was booked is added
-  pub one-grown : Grown ranked (b ∷ []) books (bookedOne ranked b books)
+  pub one-grown : Grown n ranked (b ∷ []) books (bookedOne ranked b books)
   one-grown =
       record {
         states = one-states;
         reads = one-reads;
-        placements = λ rank h.
-            omega (
-              arith,
-              raisedAt-times (targetsOf ranked (b .groups)) (books .counters .placements) (getD ranked rank 0) (omega (arith, of-rank rank h, s .placements)),
-              targets-times ranked (r .distinct) rank h (b .groups) (k .ranked),
-              ap (groupsOn rank) (append-nil (b .groups)),
-            );
-        singles = λ rank h.
-            omega (
-              arith,
-              raisedAt-times (singleTargets (targetsOf ranked (b .groups))) (books .counters .singles) (getD ranked rank 0) (omega (arith, of-rank rank h, s .singles)),
-              single-times ranked (r .distinct) rank h b (k .ranked),
-            );
-        multi = λ rank h.
-            omega (
-              arith,
-              raisedAt-times (multiTargets (targetsOf ranked (b .groups))) (books .counters .multi) (getD ranked rank 0) (omega (arith, of-rank rank h, s .multi)),
-              multi-times ranked (r .distinct) rank h b (k .ranked),
-            );
+        placements = λ t h.
+            omega (arith, raisedAt-times (targetsOf ranked (b .groups)) (books .counters .placements) t (omega (arith, s .placements)), ap (groupsOn ranked t) (append-nil (b .groups)));
+        singles = λ t h. omega (arith, raisedAt-times (singleTargets (targetsOf ranked (b .groups))) (books .counters .singles) t (omega (arith, s .singles)), single-times ranked t b);
+        multi = λ t h. omega (arith, raisedAt-times (multiTargets (targetsOf ranked (b .groups))) (books .counters .multi) t (omega (arith, s .multi)), multi-times ranked t b);
         other-placements = λ t h. omega (arith, raisedAt-other (targetsOf ranked (b .groups)) (books .counters .placements) t (λ m. h (of-read t m)));
         other-singles = λ t h. omega (arith, raisedAt-other (singleTargets (targetsOf ranked (b .groups))) (books .counters .singles) t (λ m. h (of-single t m)));
         other-multi = λ t h. omega (arith, raisedAt-other (multiTargets (targetsOf ranked (b .groups))) (books .counters .multi) t (λ m. h (of-multi t m)));
@@ -123,23 +104,25 @@ groups-append : (bs ds : List Booked) → allGroups (bs ++ ds) ≡ allGroups bs 
 groups-append [] ds = refl
 groups-append (b ∷ bs) ds = ap (λ gs. b .groups ++ gs) (groups-append bs ds) ∙ sym (append-assoc (b .groups) (allGroups bs) (allGroups ds))
 
-placements-append : (rank : ℕ) (bs ds : List Booked) → placementsOn rank (bs ++ ds) ≡ placementsOn rank bs + placementsOn rank ds
-placements-append rank bs ds = ap (groupsOn rank) (groups-append bs ds) ∙ length-filter-append (λ (p : Place). eqb (p .rank) rank) (allGroups bs) (allGroups ds)
+placements-append : (ranked : List ℕ) (t : ℕ) (bs ds : List Booked) → placementsOn ranked t (bs ++ ds) ≡ placementsOn ranked t bs + placementsOn ranked t ds
+placements-append ranked t bs ds =
+    ap (groupsOn ranked t) (groups-append bs ds) ∙ ap (λ ts. length (filter (eqb t) ts)) (map-append (λ (p : Place). getD ranked (p .rank) 0) (allGroups bs) (allGroups ds))
+    ∙ length-filter-append (eqb t) (targetsOf ranked (allGroups bs)) (targetsOf ranked (allGroups ds))
 
 indeterminate-append : (bs ds : List Booked) → anyIndeterminate (bs ++ ds) ≡ (anyIndeterminate bs || anyIndeterminate ds)
 indeterminate-append [] ds = refl
 indeterminate-append (b ∷ bs) ds = by-test (eqb (b .state) 2) (λ e. rw e) (λ e. rw e (indeterminate-append bs ds))
 
-module _ (ranked : List ℕ) (bs ds : List Booked) (books between after : Books) where
+module _ (n : ℕ) (ranked : List ℕ) (bs ds : List Booked) (books between after : Books) where
   -- by the first, then by the others
-  pub grown-append : Grown ranked bs books between → Grown ranked ds between after → Grown ranked (bs ++ ds) books after
+  pub grown-append : Grown n ranked bs books between → Grown n ranked ds between after → Grown n ranked (bs ++ ds) books after
   grown-append f g =
       record {
         states = λ role state hr hs. omega (arith, f .states role state hr hs, g .states role state hr hs, length-filter-append (λ (b : Booked). eqb (b .role) role && eqb (b .state) state) bs ds);
         reads = λ role hr. omega (arith, f .reads role hr, g .reads role hr, length-filter-append (λ (b : Booked). eqb (b .role) role) bs ds);
-        placements = λ rank h. omega (arith, f .placements rank h, g .placements rank h, placements-append rank bs ds);
-        singles = λ rank h. omega (arith, f .singles rank h, g .singles rank h, length-filter-append (λ (b : Booked). eqb (length (b .groups)) 1 && liesOn rank b) bs ds);
-        multi = λ rank h. omega (arith, f .multi rank h, g .multi rank h, length-filter-append (λ (b : Booked). ltb 1 (length (b .groups)) && liesOn rank b) bs ds);
+        placements = λ t h. omega (arith, f .placements t h, g .placements t h, placements-append ranked t bs ds);
+        singles = λ t h. omega (arith, f .singles t h, g .singles t h, length-filter-append (λ (b : Booked). eqb (length (b .groups)) 1 && liesOn ranked t b) bs ds);
+        multi = λ t h. omega (arith, f .multi t h, g .multi t h, length-filter-append (λ (b : Booked). ltb 1 (length (b .groups)) && liesOn ranked t b) bs ds);
         other-placements = λ t h. omega (arith, f .other-placements t h, g .other-placements t h);
         other-singles = λ t h. omega (arith, f .other-singles t h, g .other-singles t h);
         other-multi = λ t h. omega (arith, f .other-multi t h, g .other-multi t h);
@@ -165,14 +148,14 @@ one-sized n ranked b books s =
     }
 
 -- booking adds each read, from any books on
-pub booked-grown : (n : ℕ) (ranked : List ℕ) → Ranked n ranked → (bs : List Booked) → ((b : Booked) → b ∈ bs → Bookable (length ranked) b) → (books : Books) → Sized n books → Grown ranked bs books (bookedAll ranked bs books)
+pub booked-grown : (n : ℕ) (ranked : List ℕ) → Ranked n ranked → (bs : List Booked) → ((b : Booked) → b ∈ bs → Bookable (length ranked) b) → (books : Books) → Sized n books → Grown n ranked bs books (bookedAll ranked bs books)
 booked-grown n ranked r [] k books s =
     record {
       states = λ role state hr hs. omega arith;
       reads = λ role hr. omega arith;
-      placements = λ rank h. omega arith;
-      singles = λ rank h. omega arith;
-      multi = λ rank h. omega arith;
+      placements = λ t h. omega arith;
+      singles = λ t h. omega arith;
+      multi = λ t h. omega arith;
       other-placements = λ t h. refl;
       other-singles = λ t h. refl;
       other-multi = λ t h. refl;
@@ -183,6 +166,6 @@ booked-grown n ranked r [] k books s =
     }
 booked-grown n ranked r (b ∷ bs) k books s =
     let one = bookedOne ranked b books in
-    grown-append ranked (b ∷ []) bs books one (bookedAll ranked bs one)
+    grown-append n ranked (b ∷ []) bs books one (bookedAll ranked bs one)
     (one-grown n ranked r b (k b (inl refl)) books s)
     (booked-grown n ranked r bs (λ d m. k d (inr m)) one (one-sized n ranked b books s))

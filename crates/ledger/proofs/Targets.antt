@@ -8,10 +8,10 @@ use Prim.Native.Nat.{ℕ, zero, suc, _<_, _≤_}
 use native.Mathlib.Omega.{arith}
 use lib.ListN.{length, getD, length-map}
 use lib.Dec.{eqb, ltb}
-use borrow.Author.Tests.{eqb-true, eq-eqb, ne-eqb, lt-ltb}
+use borrow.Author.Tests.{eqb-true, ne-eqb, lt-ltb}
 use Rattle.lists.specs.Filter.{filter, consIf, every}
 use Rattle.lists.specs.Member.{_∈_, Distinct}
-use Rattle.lists.proofs.Cases.{by-test, same-test}
+use Rattle.lists.proofs.Cases.{by-test}
 use Rattle.lists.proofs.Member.{getD-∈, map-∈}
 use Rattle.lists.proofs.Filter.{length-filter}
 use Rattle.lists.proofs.Raised.{times}
@@ -66,41 +66,27 @@ one-if zero b h = refl
 one-if (suc zero) b h = refl
 one-if (suc (suc n)) b h = absurd (omega arith)
 
-module _ (ranked : List ℕ) (d : Distinct ranked) (rank : ℕ) (h : rank < length ranked) where
-  -- the target of a rank is that of another only where the ranks are equal
-  same-target : (r : ℕ) → r < length ranked → eqb (getD ranked rank 0) (getD ranked r 0) ≡ eqb r rank
-  same-target r k =
-      same-test
-      (λ e. eq-eqb r rank (sym (distinct-getD ranked d rank r h k (eqb-true (getD ranked rank 0) (getD ranked r 0) e))))
-      (λ e. eq-eqb (getD ranked rank 0) (getD ranked r 0) (ap (λ i. getD ranked i 0) (sym (eqb-true r rank e))))
-
-  -- as often as groups are on it
-  pub targets-times : (gs : List Place) → ((p : Place) → p ∈ gs → p .rank < length ranked) → times (getD ranked rank 0) (targetsOf ranked gs) ≡ groupsOn rank gs
-  targets-times [] k = refl
-  targets-times (p ∷ gs) k =
-      let ih = targets-times gs (λ q m. k q (inr m)) in
-      rw (same-target (p .rank) (k p (inl refl))) (by-test (eqb (p .rank) rank) (λ e. rw e (omega arith)) (λ e. rw e (omega arith)))
-
+module _ (ranked : List ℕ) (t : ℕ) where
   -- by a read with one group: once where that is on it
-  pub single-times : (b : Booked) → ((p : Place) → p ∈ b .groups → p .rank < length ranked) → times (getD ranked rank 0) (singleTargets (targetsOf ranked (b .groups))) ≡ singlesOn rank (b ∷ [])
-  single-times b k = go (b .groups) (targets-times (b .groups) k)
+  pub single-times : (b : Booked) → times t (singleTargets (targetsOf ranked (b .groups))) ≡ singlesOn ranked t (b ∷ [])
+  single-times b = go (b .groups)
     where
-      go : (gs : List Place) → times (getD ranked rank 0) (targetsOf ranked gs) ≡ groupsOn rank gs → times (getD ranked rank 0) (singleTargets (targetsOf ranked gs)) ≡ length (consIf (eqb (length gs) 1 && ltb 0 (groupsOn rank gs)) b [])
-      go [] e = refl
-      go (p ∷ []) e = omega (arith, one-if (groupsOn rank (p ∷ [])) b (length-filter (λ (r : Place). eqb (r .rank) rank) (p ∷ [])))
-      go (p ∷ q ∷ gs) e = rw (length-map gs (λ (r : Place). getD ranked (r .rank) 0), ne-eqb (suc (suc (length gs))) 1 (λ f. omega arith)) (omega arith)
+      go : (gs : List Place) → times t (singleTargets (targetsOf ranked gs)) ≡ length (consIf (eqb (length gs) 1 && ltb 0 (groupsOn ranked t gs)) b [])
+      go [] = refl
+      go (p ∷ []) = sym (one-if (groupsOn ranked t (p ∷ [])) b (length-filter (eqb t) (targetsOf ranked (p ∷ []))))
+      go (p ∷ q ∷ gs) = rw (length-map gs (λ (r : Place). getD ranked (r .rank) 0), ne-eqb (suc (suc (length gs))) 1 (λ f. omega arith))
 
   -- by a read with several groups: once where one of them is on it
-  pub multi-times : (b : Booked) → ((p : Place) → p ∈ b .groups → p .rank < length ranked) → times (getD ranked rank 0) (multiTargets (targetsOf ranked (b .groups))) ≡ multiOn rank (b ∷ [])
-  multi-times b k = go (b .groups) (targets-times (b .groups) k)
+  pub multi-times : (b : Booked) → times t (multiTargets (targetsOf ranked (b .groups))) ≡ multiOn ranked t (b ∷ [])
+  multi-times b = go (b .groups)
     where
-      go : (gs : List Place) → times (getD ranked rank 0) (targetsOf ranked gs) ≡ groupsOn rank gs → times (getD ranked rank 0) (multiTargets (targetsOf ranked gs)) ≡ length (consIf (ltb 1 (length gs) && ltb 0 (groupsOn rank gs)) b [])
-      go [] e = refl
-      go (p ∷ []) e = refl
-      go (p ∷ q ∷ gs) e =
-          let once = distinct-times (getD ranked rank 0) (targetsOf ranked (p ∷ q ∷ gs)) ∙ ap (λ n. cond (ltb 0 n) 1 0) e in
+      go : (gs : List Place) → times t (multiTargets (targetsOf ranked gs)) ≡ length (consIf (ltb 1 (length gs) && ltb 0 (groupsOn ranked t gs)) b [])
+      go [] = refl
+      go (p ∷ []) = refl
+      go (p ∷ q ∷ gs) =
+          let once = distinct-times t (targetsOf ranked (p ∷ q ∷ gs)) in
           rw (length-map gs (λ (r : Place). getD ranked (r .rank) 0), lt-ltb 1 (suc (suc (length gs))) (omega arith))
-          (by-test (ltb 0 (groupsOn rank (p ∷ q ∷ gs))) (λ f. rw f (omega (arith, once ∙ ap (λ c. cond c 1 0) f))) (λ f. rw f (omega (arith, once ∙ ap (λ c. cond c 1 0) f))))
+          (by-test (ltb 0 (groupsOn ranked t (p ∷ q ∷ gs))) (λ f. rw f (omega (arith, once ∙ ap (λ c. cond c 1 0) f))) (λ f. rw f (omega (arith, once ∙ ap (λ c. cond c 1 0) f))))
 
 -- ---- each target has a rank
 

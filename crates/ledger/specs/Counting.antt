@@ -9,7 +9,7 @@ use Rattle.lists.specs.Filter.{filter, every}
 use Rattle.lists.specs.Member.{_∈_, Distinct}
 use Rattle.lists.specs.Sum.{sum}
 use Rattle.places.specs.Place.{Place}
-use Rattle.ledger.specs.Booking.{Booked, Books}
+use Rattle.ledger.specs.Booking.{Booked, Books, targetsOf}
 use Rattle.ledger.specs.Balance.{countOf}
 
 -- ---- reads
@@ -26,11 +26,11 @@ readsOf role bs = length (filter (λ (b : Booked). eqb (b .role) role) bs)
 abbrev pub anyIndeterminate : List Booked → Bool
 anyIndeterminate bs = not (every (λ (b : Booked). not (eqb (b .state) 2)) bs)
 
--- ---- reads on the target of a rank
+-- ---- reads on a target, by its supplied place; `ranked` holds the supplied place of each rank
 
 -- how many of some groups are on it
-abbrev pub groupsOn : ℕ → List Place → ℕ
-groupsOn rank gs = length (filter (λ (p : Place). eqb (p .rank) rank) gs)
+abbrev pub groupsOn : List ℕ → ℕ → List Place → ℕ
+groupsOn ranked target gs = length (filter (eqb target) (targetsOf ranked gs))
 
 -- the groups of all reads
 abbrev pub allGroups : List Booked → List Place
@@ -38,20 +38,20 @@ allGroups [] = []
 allGroups (b ∷ bs) = b .groups ++ allGroups bs
 
 -- at least one group of a read is on it
-abbrev pub liesOn : ℕ → Booked → Bool
-liesOn rank b = ltb 0 (groupsOn rank (b .groups))
+abbrev pub liesOn : List ℕ → ℕ → Booked → Bool
+liesOn ranked target b = ltb 0 (groupsOn ranked target (b .groups))
 
 -- the groups that are on it
-abbrev pub placementsOn : ℕ → List Booked → ℕ
-placementsOn rank bs = groupsOn rank (allGroups bs)
+abbrev pub placementsOn : List ℕ → ℕ → List Booked → ℕ
+placementsOn ranked target bs = groupsOn ranked target (allGroups bs)
 
 -- the reads whose one group is on it
-abbrev pub singlesOn : ℕ → List Booked → ℕ
-singlesOn rank bs = length (filter (λ (b : Booked). eqb (length (b .groups)) 1 && liesOn rank b) bs)
+abbrev pub singlesOn : List ℕ → ℕ → List Booked → ℕ
+singlesOn ranked target bs = length (filter (λ (b : Booked). eqb (length (b .groups)) 1 && liesOn ranked target b) bs)
 
 -- the reads with several groups, of which at least one is on it
-abbrev pub multiOn : ℕ → List Booked → ℕ
-multiOn rank bs = length (filter (λ (b : Booked). ltb 1 (length (b .groups)) && liesOn rank b) bs)
+abbrev pub multiOn : List ℕ → ℕ → List Booked → ℕ
+multiOn ranked target bs = length (filter (λ (b : Booked). ltb 1 (length (b .groups)) && liesOn ranked target b) bs)
 
 -- ---- the books
 
@@ -66,14 +66,14 @@ pub record Ranked (n : ℕ) (ranked : List ℕ) : Type 0 where
   pub distinct : Distinct ranked
   pub inside : (t : ℕ) → t ∈ ranked → t < n
 
--- the books count the reads: by role and state; by role; on each target its placements, singles and multi, none on a target without a
--- rank; the totals are sums over the targets; and whether a read was indeterminate
-pub record Counts (ranked : List ℕ) (bs : List Booked) (books : Books) : Type 0 where
+-- the books of n targets count the reads: by role and state; by role; on each target its placements, singles and multi, none on a target
+-- without a rank; the totals are sums over the targets; and whether a read was indeterminate
+pub record Counts (n : ℕ) (ranked : List ℕ) (bs : List Booked) (books : Books) : Type 0 where
   pub states : (role state : ℕ) → role < 3 → state < 6 → countOf (books .ledger .table) role state ≡ readsIn role state bs
   pub reads : (role : ℕ) → role < 3 → getD (books .ledger .reads) role 0 ≡ readsOf role bs
-  pub placements : (rank : ℕ) → rank < length ranked → getD (books .counters .placements) (getD ranked rank 0) 0 ≡ placementsOn rank bs
-  pub singles : (rank : ℕ) → rank < length ranked → getD (books .counters .singles) (getD ranked rank 0) 0 ≡ singlesOn rank bs
-  pub multi : (rank : ℕ) → rank < length ranked → getD (books .counters .multi) (getD ranked rank 0) 0 ≡ multiOn rank bs
+  pub placements : (t : ℕ) → t < n → getD (books .counters .placements) t 0 ≡ placementsOn ranked t bs
+  pub singles : (t : ℕ) → t < n → getD (books .counters .singles) t 0 ≡ singlesOn ranked t bs
+  pub multi : (t : ℕ) → t < n → getD (books .counters .multi) t 0 ≡ multiOn ranked t bs
   pub unranked : (t : ℕ) → (t ∈ ranked → ⊥) → (getD (books .counters .placements) t 0 ≡ 0) × (getD (books .counters .singles) t 0 ≡ 0) × (getD (books .counters .multi) t 0 ≡ 0)
   pub total-placements : books .ledger .placements ≡ sum (books .counters .placements)
   pub total-singles : books .ledger .singles ≡ sum (books .counters .singles)

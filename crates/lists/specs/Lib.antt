@@ -9,3 +9,4 @@ pub mod Same
 pub mod Numbers
 pub mod Raised
 pub mod Sum
+pub mod Each

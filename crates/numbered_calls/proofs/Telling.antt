@@ -3,11 +3,11 @@
 use mathlib.Core.Path.{_≡_, refl, ap, _∙_}
 use mathlib.Core.Bool.{Bool, true, false, _&&_}
 use mathlib.Core.List.{List}
-use Prim.Native.Nat.{ℕ, zero, suc, _<_, _≤_}
+use Prim.Native.Nat.{ℕ, _<_, _≤_}
 use native.Mathlib.Omega.{arith}
 use lib.ListN.{length, getD}
 use borrow.Author.Tests.{le-leb, lt-leb, eq-eqb, ne-eqb}
-use Rattle.promises.specs.Refusal.{Outcome, refused, accepted, numberOf, outcome}
+use Rattle.promises.specs.Refusal.{Outcome, numberOf, outcome}
 use Rattle.promises.proofs.Refusing.{number-is}
 use Rattle.catalogue.specs.Catalogue.{Catalogue}
 use Rattle.seeds.specs.Seeds.{placed}
@@ -27,13 +27,13 @@ use Rattle.audit_rules.specs.declared.settings.MateRole.{MateRole}
 use Rattle.audit_rules.specs.declared.sheet.Sheet.{Sheet}
 use Rattle.audit_rules.specs.Settings.{Held, auditSeed, auditOffset}
 use Rattle.audit_rules.specs.Opening.{IndexLent}
-use Rattle.audit_rules.specs.Sheet.{sheetOf, finishRefusal}
-use Rattle.audit_rules.specs.Calls.{mateOf, fragmentOf, callOutcome, fragmentOutcome, Opens, Audits, sheetAfter, Finishes}
+use Rattle.audit_rules.specs.Calls.{mateOf, fragmentOf, callOutcome, fragmentOutcome, finishOutcome, Opens, Audits, Finishes}
+use Rattle.audit_rules.proofs.Finishing.{finish-outcome}
 use Rattle.audit_codes.specs.Codes.{modeOf, roleOf, isRole, isMark, isSet}
 use Rattle.unitigs.specs.Rows.{Applies}
 use Rattle.fragment_lists.specs.Listed.{fragmentRows}
 use Rattle.state_numbers.specs.Layout.{stateNumbers, stateIn, isState}
-use Rattle.sheet_numbers.specs.Sheet.{finishNumbers, answerOutcome, finishOutcome, sheetIn, isSheet}
+use Rattle.sheet_numbers.specs.Sheet.{finishNumbers, sheetIn, isSheet}
 use Rattle.numbered_calls.specs.Calls.{settingsOf, CodedFragment, codesRight, fragmentIn, openRight, heldIn, fragmentRight, finishRight, OpensNumbers, AuditsNumbers, FinishesNumbers, AppliesNumbers}
 
 -- the number of an outcome is its refusal
@@ -164,13 +164,6 @@ module _ (ns answer : List ℕ) where
   pub finish-by-state : 25 ≤ length answer → (b : Bool) → isState ns ≡ b → finishRight ns answer ≡ b
   finish-by-state room b h = rw (le-leb 25 (length answer) room, h)
 
--- the sheet of an accepted finish, or its refusal
-finish-outcome : (a : CallAnswer) (n : ℕ) (s : Sheet) (h : Held) → callOutcome a ≡ outcome n tt → s ≡ sheetAfter n h → answerOutcome a s ≡ outcome n (sheetOf h)
-finish-outcome (calls.Refused m) zero s h e f = absurd (let z : _≡_ {A = ℕ} 0 1 = cc in omega arith)
-finish-outcome (calls.Refused m) (suc n) s h e f = let g : m ≡ suc n = cc in ap refused g
-finish-outcome calls.Accepted zero s h e f = ap accepted f
-finish-outcome calls.Accepted (suc n) s h e f = absurd (let z : _≡_ {A = ℕ} 0 1 = cc in omega arith)
-
 module _ (c : Catalogue) (lent : IndexLent) (k : Counters) (ns answer : List ℕ) where
   pub finish-wrong : finishRight ns answer ≡ false → FinishesNumbers c lent k ns answer 26 answer
   finish-wrong t = record { number = rw t; told = rw t }
@@ -179,7 +172,7 @@ module _ (c : Catalogue) (lent : IndexLent) (k : Counters) (ns answer : List ℕ
       → (r : ℕ) (answer′ : List ℕ) → Put finishNumbers (finishOutcome a) r answer answer′ → FinishesNumbers c lent k ns answer r answer′
   finish-told t s es a g r answer′ w =
       let b : Finishes auditSeed auditOffset c lent (heldIn ns k) a = rw es at g in
-      let e = finish-outcome (a .answer) (finishRefusal auditSeed auditOffset c lent (heldIn ns k)) (a .sheet) (heldIn ns k) (b .answer) (b .sheet) in
+      let e = finish-outcome auditSeed auditOffset c lent (heldIn ns k) a b in
       record {
         number = rw t (w .number ∙ told-number _ _ _ e);
         told = rw t (w .written ∙ ap (λ o. placed 0 (finishNumbers o) answer) e);

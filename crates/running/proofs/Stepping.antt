@@ -31,7 +31,7 @@ use Rattle.fragment_stream.specs.declared.FragmentRead.the-variants as reads
 use Rattle.fragment_stream.specs.Telling.{longestFragment, FragmentTold}
 use Rattle.fragment_stream.proofs.Longest.{fragment-longest}
 use Rattle.catch_rules.specs.Job.{lentOf, running}
-use Rattle.catch_rules.specs.Feeding.{Ends}
+use Rattle.catch_rules.specs.Feeding.{Ends, by-bytes, MustWait, at-the-end}
 use Rattle.catch_rules.proofs.Steps.{fragment-wrong, fragment-short, run-other, bytes-behind}
 use Rattle.advances.specs.declared.Advance.{Advance}
 use Rattle.progress.specs.declared.Progress.{Progress}
@@ -87,7 +87,9 @@ module _ (c : Catalogue) (ranked ks rs os : List ℕ) (h : Held) (entries : List
   pub wait-ran : ended ≡ false → bytes ≡ [] → (a : Advance) → Waits at a → out′ ≡ out → Ran ended c h (5 ∷ bytes) out at out′ (record { advance = a; state = h .state }) (h .counters)
   wait-ran e none a w same =
       record {
-        advances = subst (λ b. Advances b (running c h) (5 ∷ bytes) out at out′ a (running c h)) (sym e) (waits (running c h) (5 ∷ bytes) out at out′ a (omega (arith, ap length none)) w same);
+        advances =
+            subst (λ b. Advances b (running c h) (5 ∷ bytes) out at out′ a (running c h)) (sym e)
+            (waits (running c h) (5 ∷ bytes) out at out′ a (omega (arith, ap length none)) (subst (λ l. MustWait (running c h) (5 ∷ l)) (sym none) (at-the-end c h)) w same);
         still-passes = lent .passes;
       }
 
@@ -145,7 +147,7 @@ module _ (c : Catalogue) (ranked ks rs os : List ℕ) (h : Held) (entries : List
       ran-accepted rows f p g =
           let w = fragment-goes c ranked ks rs os h entries lent bytes head (read .0) (t .audit) k entries′ audits rows f in
           record {
-            advances = record { text = text; adds = tells .adds; told = subst (λ x. Tells ended (running c h) (3 ∷ bytes) x text (running c after)) (sym g) (omega (arith, read .0 .within), w .0) };
+            advances = record { text = text; adds = tells .adds; told = subst (λ x. Tells ended (running c h) (3 ∷ bytes) x text (running c after)) (sym g) (record { within = omega (arith, read .0 .within); further = by-bytes _ _ _ (omega arith) (omega arith); goes = w .0 }) };
             still-passes = w .1;
           }
 

@@ -16,13 +16,12 @@ use Rattle.state_numbers.proofs.Again.{mode-back, mark-back, cut-off, last-four
 use Rattle.sheet_numbers.specs.Sheet.{finishNumbers, statusOf, sheetIn, isSheet}
 use Rattle.sheet_numbers.proofs.Testing.{sheet-parts}
 
-run-back : (n p g m : ℕ) → n ≤ 3 → (n ≡ 0) ⊎ ((p ≡ 0) × (g ≡ 0) × (m ≡ 0)) → shownNumbers (shown (statusOf n) (totalsOf p g m)) ≡ n ∷ p ∷ g ∷ m ∷ []
+run-back : (n p g m : ℕ) → n ≤ 2 → (n ≡ 0) ⊎ ((p ≡ 0) × (g ≡ 0) × (m ≡ 0)) → shownNumbers (shown (statusOf n) (totalsOf p g m)) ≡ n ∷ p ∷ g ∷ m ∷ []
 run-back zero p g m h t = refl
 run-back (suc n) p g m h (inl e) = absurd (omega arith)
 run-back (suc zero) p g m h (inr z) = rw (z .0, z .1, z .2)
 run-back (suc (suc zero)) p g m h (inr z) = rw (z .0, z .1, z .2)
-run-back (suc (suc (suc zero))) p g m h (inr z) = rw (z .0, z .1, z .2)
-run-back (suc (suc (suc (suc n)))) p g m h (inr z) = absurd (omega arith)
+run-back (suc (suc (suc n))) p g m h (inr z) = absurd (omega arith)
 
 all-parts : (ns : List ℕ) → length ns ≡ 25 → ns ≡ getD ns 0 0 ∷ getD ns 1 0 ∷ getD ns 2 0 ∷ (window ns 3 18 ++ (getD ns 21 0 ∷ getD ns 22 0 ∷ getD ns 23 0 ∷ getD ns 24 0 ∷ []))
 all-parts ns h =

@@ -11,9 +11,10 @@ use lib.Dec.{eqb}
 use borrow.Author.Tests.{le-leb, lt-leb, eq-eqb, ne-eqb, leb-true, eqb-true}
 use Rattle.lists.specs.Cut.{window}
 use Rattle.lists.specs.Filter.{every}
-use Rattle.lists.proofs.Cases.{and-true}
+use Rattle.lists.proofs.Cases.{by-test, and-true}
+use Rattle.audit_codes.specs.Codes.{isSet}
 use Rattle.state_numbers.proofs.Writing.{three}
-use Rattle.sheet_numbers.specs.Sheet.{isSheet}
+use Rattle.sheet_numbers.specs.Sheet.{statusFits, isSheet}
 
 module _ (ns : List ℕ) where
   pub wrong-length : (length ns ≡ 25 → ⊥) → false ≡ isSheet ns
@@ -36,20 +37,20 @@ module _ (ns : List ℕ) where
         wrong-remap h = rw (eq-eqb (length ns) 25 l, eq-eqb (getD ns 0 0) 0 n₀, le-leb (getD ns 1 0) 1 n₁, lt-leb (getD ns 2 0) 1 h)
 
         module _ (n₂ : getD ns 2 0 ≤ 1) where
-          pub wrong-status : 3 < getD ns 21 0 → false ≡ isSheet ns
+          pub wrong-status : statusFits (getD ns 21 0) (getD ns 2 0) ≡ false → false ≡ isSheet ns
           unfolding isSheet
-          wrong-status h = rw (eq-eqb (length ns) 25 l, eq-eqb (getD ns 0 0) 0 n₀, le-leb (getD ns 1 0) 1 n₁, le-leb (getD ns 2 0) 1 n₂, lt-leb (getD ns 21 0) 3 h)
+          wrong-status h = rw (eq-eqb (length ns) 25 l, eq-eqb (getD ns 0 0) 0 n₀, le-leb (getD ns 1 0) 1 n₁, le-leb (getD ns 2 0) 1 n₂, h)
 
-          module _ (n₂₁ : getD ns 21 0 ≤ 3) where
+          module _ (n₂₁ : statusFits (getD ns 21 0) (getD ns 2 0) ≡ true) where
             pub with-totals : getD ns 21 0 ≡ 0 → true ≡ isSheet ns
             unfolding isSheet
-            with-totals h = rw (eq-eqb (length ns) 25 l, eq-eqb (getD ns 0 0) 0 n₀, le-leb (getD ns 1 0) 1 n₁, le-leb (getD ns 2 0) 1 n₂, h)
+            with-totals h = rw (eq-eqb (length ns) 25 l, eq-eqb (getD ns 0 0) 0 n₀, le-leb (getD ns 1 0) 1 n₁, le-leb (getD ns 2 0) 1 n₂, n₂₁, eq-eqb (getD ns 21 0) 0 h)
 
             module _ (ne : getD ns 21 0 ≡ 0 → ⊥) where
               by-totals : every (λ n. eqb n 0) (getD ns 22 0 ∷ getD ns 23 0 ∷ getD ns 24 0 ∷ []) ≡ isSheet ns
               unfolding isSheet
               by-totals =
-                  rw (eq-eqb (length ns) 25 l, eq-eqb (getD ns 0 0) 0 n₀, le-leb (getD ns 1 0) 1 n₁, le-leb (getD ns 2 0) 1 n₂, le-leb (getD ns 21 0) 3 n₂₁, ne-eqb (getD ns 21 0) 0 ne)
+                  rw (eq-eqb (length ns) 25 l, eq-eqb (getD ns 0 0) 0 n₀, le-leb (getD ns 1 0) 1 n₁, le-leb (getD ns 2 0) 1 n₂, n₂₁, ne-eqb (getD ns 21 0) 0 ne)
                   (ap (every (λ n. eqb n 0)) (three ns 22 (omega arith)))
 
               pub wrong-placements : (getD ns 22 0 ≡ 0 → ⊥) → false ≡ isSheet ns
@@ -65,13 +66,16 @@ module _ (ns : List ℕ) where
                   and-last true = refl
                   and-last false = refl
 
+status-few : (status remap : ℕ) → statusFits status remap ≡ true → status ≤ 2
+status-few status remap t = by-test (isSet remap) (λ u. omega (arith, leb-true status 1 (rw u at t))) (λ u. omega (arith, eqb-true status 2 (rw u at t)))
+
 -- what the numbers of a sheet are
 pub record SheetParts (ns : List ℕ) : Type 0 where
   pub sized : length ns ≡ 25
   pub refusal : getD ns 0 0 ≡ 0
   pub mode : getD ns 1 0 ≤ 1
   pub remap : getD ns 2 0 ≤ 1
-  pub status : getD ns 21 0 ≤ 3
+  pub status : getD ns 21 0 ≤ 2
   pub totals : (getD ns 21 0 ≡ 0) ⊎ ((getD ns 22 0 ≡ 0) × (getD ns 23 0 ≡ 0) × (getD ns 24 0 ≡ 0))
 
 zeros : (a b c : ℕ) → every (λ n. eqb n 0) (a ∷ b ∷ c ∷ []) ≡ true → (a ≡ 0) × (b ≡ 0) × (c ≡ 0)
@@ -99,6 +103,6 @@ sheet-parts ns h =
       refusal = eqb-true _ _ (e .1);
       mode = leb-true _ _ (d .1);
       remap = leb-true _ _ (c .1);
-      status = leb-true _ _ (b .1);
+      status = status-few (getD ns 21 0) (getD ns 2 0) (b .1);
       totals = totals-right ns (eqb-true _ _ (e .0)) (eqb (getD ns 21 0) 0) refl (a .1);
     }

@@ -24,7 +24,8 @@ use Rattle.audit_rules.specs.Unitigs.{totalNumbers, shownNumbers}
 use Rattle.audit_codes.specs.Codes.{modeOf, isSet}
 use Rattle.state_numbers.specs.Layout.{flagNumber, modeNumber}
 use Rattle.state_numbers.proofs.Writing.{put-two}
-use Rattle.sheet_numbers.specs.Sheet.{sheetNumbers, finishNumbers, finishOutcome, statusOf, sheetIn}
+use Rattle.audit_rules.specs.Calls.{finishOutcome}
+use Rattle.sheet_numbers.specs.Sheet.{sheetNumbers, finishNumbers, statusOf, sheetIn}
 
 length-totals : (a : Availability) → length (totalNumbers a) ≡ 3
 length-totals totals.Unavailable = refl

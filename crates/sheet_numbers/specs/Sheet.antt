@@ -1,16 +1,12 @@
 -- The sheet of a finished audit as numbers (REFERENCE.md, "Exports").
-use mathlib.Core.Path.{_≡_}
-use mathlib.Core.Bool.{Bool, _&&_, _||_}
-use mathlib.Core.List.{List, [], _∷_, _++_}
+use mathlib.Core.Bool.{Bool, cond, _&&_, _||_}
+use mathlib.Core.List.{List, _∷_, _++_}
 use Prim.Native.Nat.{ℕ, zero, suc}
 use lib.ListN.{length, getD, replicate}
 use lib.Dec.{eqb, leb}
 use Rattle.lists.specs.Cut.{window}
 use Rattle.lists.specs.Filter.{every}
-use Rattle.promises.specs.Refusal.{Outcome, refused, accepted, numberOf}
-use Rattle.audit_rules.specs.declared.calls.CallAnswer.{CallAnswer}
-use Rattle.audit_rules.specs.declared.calls.CallAnswer.the-variants as calls
-use Rattle.audit_rules.specs.declared.calls.Finish.{Finish}
+use Rattle.promises.specs.Refusal.{Outcome, refused, accepted}
 use Rattle.audit_rules.specs.declared.sheet.Status.{Status}
 use Rattle.audit_rules.specs.declared.sheet.Status.the-variants as statuses
 use Rattle.audit_rules.specs.declared.sheet.Sheet.{Sheet}
@@ -33,14 +29,6 @@ abbrev pub finishNumbers : Outcome Sheet → List ℕ
 finishNumbers (refused n) = n ∷ replicate 24 0
 finishNumbers (accepted s) = 0 ∷ sheetNumbers s
 
--- what an answer of `finish` stands for
-abbrev pub answerOutcome : CallAnswer → Sheet → Outcome Sheet
-answerOutcome (calls.Refused n) s = refused n
-answerOutcome calls.Accepted s = accepted s
-
-abbrev pub finishOutcome : Finish → Outcome Sheet
-finishOutcome f = answerOutcome (f .answer) (f .sheet)
-
 -- ---- read back
 
 abbrev pub statusOf : ℕ → Status
@@ -58,8 +46,12 @@ sheetIn ns =
       run = shown (statusOf (getD ns 21 0)) (totalsOf (getD ns 22 0) (getD ns 23 0) (getD ns 24 0));
     }
 
+-- the status of a run, by its numbers: complete or past the limit with remap on, else that remap is off
+abbrev pub statusFits : ℕ → ℕ → Bool
+statusFits status remap = cond (isSet remap) (leb status 1) (eqb status 2)
+
 -- 26 where this fails: the numbers are those of an accepted `finish`; totals that are unavailable are 0
 unfoldable pub isSheet : List ℕ → Bool
 isSheet ns =
-    eqb (length ns) finishLength && eqb (getD ns 0 0) 0 && isMark (getD ns 1 0) && isMark (getD ns 2 0) && leb (getD ns 21 0) 3
+    eqb (length ns) finishLength && eqb (getD ns 0 0) 0 && isMark (getD ns 1 0) && isMark (getD ns 2 0) && statusFits (getD ns 21 0) (getD ns 2 0)
     && (eqb (getD ns 21 0) 0 || every (λ n. eqb n 0) (window ns 22 3))

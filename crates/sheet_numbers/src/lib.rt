@@ -6,7 +6,8 @@ ghost use lib.ListN.{length};
 ghost use Rattle.promises.specs.Slice.{old, new};
 ghost use Rattle.seeds.specs.Seeds.{placed};
 ghost use Rattle.replies.specs.Replies.{Put};
-ghost use Rattle.sheet_numbers.specs.Sheet.{finishLength, finishNumbers, finishOutcome, sheetNumbers, statusOf, sheetIn, isSheet};
+ghost use Rattle.audit_rules.specs.Calls.{finishOutcome};
+ghost use Rattle.sheet_numbers.specs.Sheet.{finishLength, finishNumbers, sheetNumbers, statusOf, sheetIn, statusFits, isSheet};
 use audit_codes::mode_of;
 use audit_rules::calls::CallAnswer;
 use audit_rules::calls::Finish;
@@ -71,6 +72,16 @@ fn status_of(number: u64) -> Status
     Status::ClosedUnsupported
 }
 
+// Whether a run has a status: with remap off it is 2, else 0 or 1.
+fn status_fits(status: u64, remap: u64) -> bool
+    ensures { λ r. ⌜ r ≡ statusFits status remap ⌝ }
+{
+    if remap == 1 {
+        return status <= 1;
+    }
+    status == 2
+}
+
 // Whether numbers are those of an accepted `finish`: 26 where they are not.
 pub fn is_sheet(numbers: &[u64]) -> bool
     ensures { λ r. ⌜ r ≡ isSheet (old numbers) ⌝ }
@@ -87,7 +98,7 @@ pub fn is_sheet(numbers: &[u64]) -> bool
     if 1 < numbers[2] {
         return false;
     }
-    if 3 < numbers[21] {
+    if !status_fits(numbers[21], numbers[2]) {
         return false;
     }
     if numbers[21] == 0 {

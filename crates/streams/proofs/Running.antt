@@ -54,8 +54,8 @@ new-kept is bs ranked ks rs os i b r k s o =
 
 -- it goes no further than what it was lent
 told-within : (ended : Bool) (before after : Stage) (bytes text : List ℕ) (p : Progress) (from end : ℕ) → from ≤ end → length bytes ≡ end - from → Tells ended before bytes p text after → Stepped p from end
-told-within true before after bytes text (progress.Went n) from end h e t = omega (arith, t .0)
-told-within false before after bytes text (progress.Went n) from end h e t = omega (arith, t .0)
+told-within true before after bytes text (progress.Went n) from end h e t = omega (arith, t .within)
+told-within false before after bytes text (progress.Went n) from end h e t = omega (arith, t .within)
 told-within ended before after bytes text progress.Ended from end h e t = h
 told-within ended before after bytes text progress.More from end h e t = h
 

@@ -31,7 +31,8 @@ use Rattle.job_opening.specs.declared.Indexed.{Indexed}
 use Rattle.job_opening.specs.declared.JobOpening.{JobOpening}
 use Rattle.job_opening.specs.declared.JobOpening.the-variants as openings
 use Rattle.advances.specs.declared.Advance.{Advance}
-use Rattle.advances.specs.Advancing.{Advances, Refuses, Stays}
+use Rattle.advances.specs.Advancing.{WentOn, Advances, Refuses, Stays}
+use Rattle.catch_rules.specs.Feeding.{by-bytes, by-opening}
 use Rattle.advances.proofs.Advancing.{refuses, stays, goes-on}
 use Rattle.supplying.specs.Supplying.{went, SupplyKept, OpensAt}
 use Rattle.supplying.specs.declared.Opened.the-variants as opened
@@ -49,7 +50,7 @@ module _ (ended : Bool) (code : ℕ) (bytes out : List ℕ) (at : ℕ) where
     pub begin-reads : (s : Settings) → answer ≡ settings.Read s → Advances ended beginning (code ∷ bytes) out at out (went at 12) (supplying s noTargets)
     begin-reads s e =
         let p = as-read (settings.Read s) e in
-        rw is (goes-on beginning (supplying s noTargets) (1 ∷ bytes) out at out ended 12 refl (omega (arith, p .within)) (begin-read bytes s p))
+        rw is (goes-on beginning (supplying s noTargets) (1 ∷ bytes) out at out ended 12 refl (omega (arith, p .within)) (by-bytes _ _ _ (omega arith) (omega arith)) (begin-read bytes s p))
 
     module _ (out′ : List ℕ) (r : Advance) where
       pub begin-refuses : answer ≡ settings.Wrong → Refuses 20 out at out′ r → Advances ended beginning (code ∷ bytes) out at out′ r beginning
@@ -125,9 +126,12 @@ module _ (held : Supply) (is ies bs bes ms : List ℕ) (kept : SupplyKept held i
         behind-target : drop (6 + h .name + h .count) bytes ≡ drop end (2 ∷ bytes)
         behind-target = let e : suc (6 + h .name + h .count) ≡ end = omega arith in ap (λ m. drop m (2 ∷ bytes)) e
 
-        pub supply-goes : (s : Settings) → Goes (supplying s c) (2 ∷ bytes) [] (supplying s c′) (drop end (2 ∷ bytes))
+        supply-goes : (s : Settings) → Goes (supplying s c) (2 ∷ bytes) [] (supplying s c′) (drop end (2 ∷ bytes))
         supply-goes s =
             rw same-target (subst (Goes (supplying s c) (2 ∷ bytes) [] (supplying s (targetAt c bytes h))) behind-target (supply-read s c bytes (targetAt c bytes h) (6 + h .name + h .count) (as-told (targets.Read h) read .0)))
+
+        pub supply-went : (s : Settings) → WentOn (supplying s c) (2 ∷ bytes) end [] (supplying s c′)
+        supply-went s = record { within = omega (arith, target-there); further = by-bytes (supplying s c) end (supplying s c′) (omega arith) (omega arith); goes = supply-goes s }
 
 -- ---- the opening
 
@@ -161,4 +165,4 @@ module _ (code : ℕ) (c : Catalogue) (s : Settings) (k : Counters) (out : List 
         let p = as-opened (openings.Opened i) e in
         λ z ended bytes.
         let n = the-refusal 0 (p .0) z in
-        (goes-on (supplying s c) (running c (started c s)) (code ∷ bytes) out at out ended 0 refl (omega arith) (opening-accepts s c bytes code due two n), p .1, n)
+        (goes-on (supplying s c) (running c (started c s)) (code ∷ bytes) out at out ended 0 refl (omega arith) (by-opening s c c (started c s)) (opening-accepts s c bytes code due two n), p .1, n)

@@ -6,7 +6,7 @@ use native.Mathlib.Omega.{arith}
 use lib.ListN.{length-take}
 use Rattle.supplies.specs.Supplied.{suppliedIn}
 use Rattle.advances.proofs.Advancing.{nothing-added}
-use Rattle.supplying.proofs.Supplying.{target-there, target-fitting, supply-refuses, supply-stays, supply-goes, kept-more}
+use Rattle.supplying.proofs.Supplying.{target-there, target-fitting, supply-refuses, supply-stays, supply-went, kept-more}
 use borrow.Author.Needs.{needs}
 use Rattle.supplying.proofs.supply.Statement.{statement}
 use Rattle.supplying.proofs.supply.Tie as tie
@@ -135,7 +135,7 @@ returns-3 c =
       λ t. record {
         text = [];
         adds = nothing-added (a .out .now) (a .at);
-        told = (omega (arith, l), supply-goes (a .held) (a .identifiers .now) (a .identifier-ends .now) (a .bases .now) (a .base-ends .now) (a .marks .now) (s .pre .0) (a .bytes .now) _ (c .before .before .before .before .before .before .before .before .before .before .before .before .before .before .before .before .before .before .before .before .before .before .before .read-target .ensures) _ (h .1) (6 + n - 6) (6 + n + m - (6 + n)) (suppliedIn (k .result) (k .last .0) (k .last .1 .0) (k .last .1 .1 .0) (k .last .1 .1 .1 .0) (k .last .1 .1 .1 .1 .0)) (k .ensures .0) (omega arith) (omega arith) (1 + (6 + n + m)) (omega arith) t);
+        told = supply-went (a .held) (a .identifiers .now) (a .identifier-ends .now) (a .bases .now) (a .base-ends .now) (a .marks .now) (s .pre .0) (a .bytes .now) _ (c .before .before .before .before .before .before .before .before .before .before .before .before .before .before .before .before .before .before .before .before .before .before .before .read-target .ensures) _ (h .1) (6 + n - 6) (6 + n + m - (6 + n)) (suppliedIn (k .result) (k .last .0) (k .last .1 .0) (k .last .1 .1 .0) (k .last .1 .1 .1 .0) (k .last .1 .1 .1 .1 .0)) (k .ensures .0) (omega arith) (omega arith) (1 + (6 + n + m)) (omega arith) t;
       },
       kept-more (a .held) (a .identifiers .now) (a .identifier-ends .now) (a .bases .now) (a .base-ends .now) (a .marks .now) (s .pre .0) (a .bytes .now) _ (c .before .before .before .before .before .before .before .before .before .before .before .before .before .before .before .before .before .before .before .before .before .before .before .read-target .ensures) _ (h .1) (k .result) (k .last .0) (k .last .1 .0) (k .last .1 .1 .0) (k .last .1 .1 .1 .0) (k .last .1 .1 .1 .1 .0) (6 + n - 6) (6 + n + m - (6 + n)) _ _ (omega arith) (omega arith) (k .ensures .1) (k .kept .0) (k .kept .1 .0) (k .kept .1 .1 .0) (k .kept .1 .1 .1 .0) (k .kept .1 .1 .1 .1 .0),
     )
