@@ -1,0 +1,184 @@
+// Runs cases of calls of both audits that are written as bytes. A number has two bytes, the low one first.
+// A case: its length in bytes; lengths of identifier bytes, identifier ends, base bytes, base ends and marks; these five
+// lists, an end as a number; then commands, each its length and its bytes. Counters are zero at first, the columns hold
+// the index that `build` gives at 15, and sevens behind it.
+use crate::commands::run_command;
+use crate::held::Held;
+use crate::held::nothing_held;
+use libc::STDIN_FILENO;
+use postings::build;
+use test_cases::reading::case_end;
+use test_cases::targets::lists_at;
+use test_cases::targets::read_ends;
+use test_cases::writing::put;
+
+// What one command leaves to the next: the counters, the columns, state and sheet.
+struct Desk {
+    placements: [u64; 16],
+    singles: [u64; 16],
+    multi: [u64; 16],
+    keys: [u64; 256],
+    ranks: [u64; 256],
+    positions: [u64; 256],
+    held: Held,
+}
+
+// One command on what the one before it leaves.
+fn run_on(
+    desk: Desk,
+    identifiers: &[u8],
+    identifier_ends: &[usize],
+    bases: &[u8],
+    base_ends: &[usize],
+    marks: &[u8],
+    s: &[u8],
+) -> Desk {
+    let mut placements = desk.placements;
+    let mut singles = desk.singles;
+    let mut multi = desk.multi;
+    let mut keys = desk.keys;
+    let mut ranks = desk.ranks;
+    let mut positions = desk.positions;
+    let before = desk.held;
+    let held = run_command(
+        &mut placements,
+        &mut singles,
+        &mut multi,
+        &mut keys,
+        &mut ranks,
+        &mut positions,
+        identifiers,
+        identifier_ends,
+        bases,
+        base_ends,
+        marks,
+        s,
+        before,
+    );
+    Desk {
+        placements,
+        singles,
+        multi,
+        keys,
+        ranks,
+        positions,
+        held,
+    }
+}
+
+// The commands of a case, one after the other.
+fn run_commands(
+    start: Desk,
+    identifiers: &[u8],
+    identifier_ends: &[usize],
+    bases: &[u8],
+    base_ends: &[usize],
+    marks: &[u8],
+    s: &[u8],
+) {
+    let mut desk = start;
+    let mut at = 0;
+    while at + 1 < s.len() {
+        let end = case_end(s, at);
+        desk = run_on(
+            desk,
+            identifiers,
+            identifier_ends,
+            bases,
+            base_ends,
+            marks,
+            &s[at + 2..end],
+        );
+        at = end;
+    }
+}
+
+fn run_targets(
+    identifiers: &[u8],
+    identifier_ends: &[usize],
+    bases: &[u8],
+    base_ends: &[usize],
+    marks: &[u8],
+    s: &[u8],
+) {
+    let mut keys = [7u64; 256];
+    let mut ranks = [7u64; 256];
+    let mut positions = [7u64; 256];
+    build(
+        &mut keys,
+        &mut ranks,
+        &mut positions,
+        identifiers,
+        identifier_ends,
+        bases,
+        base_ends,
+        marks,
+        15,
+    );
+    let desk = Desk {
+        placements: [0; 16],
+        singles: [0; 16],
+        multi: [0; 16],
+        keys,
+        ranks,
+        positions,
+        held: nothing_held(),
+    };
+    run_commands(
+        desk,
+        identifiers,
+        identifier_ends,
+        bases,
+        base_ends,
+        marks,
+        s,
+    );
+}
+
+fn run_case(s: &[u8]) {
+    if s.len() < 10 {
+        return put(b"short\n");
+    }
+    let lists = lists_at(s, 0, 10);
+    let identifiers = lists.identifiers;
+    let named = lists.named;
+    let bases = lists.bases;
+    let ended = lists.ended;
+    let marks = lists.marks;
+    let names = lists.names;
+    let sequences = lists.sequences;
+    let identifier_ends = read_ends(s, identifiers, names);
+    let base_ends = read_ends(s, bases, sequences);
+    run_targets(
+        &s[10..identifiers],
+        &identifier_ends[0..names],
+        &s[named..bases],
+        &base_ends[0..sequences],
+        &s[ended..marks],
+        &s[marks..],
+    );
+}
+
+fn run_cases(s: &[u8]) {
+    let mut at = 0;
+    while at + 1 < s.len() {
+        let end = case_end(s, at);
+        run_case(&s[at + 2..end]);
+        at = end;
+    }
+}
+
+fn run_block() {
+    let mut block = [0u8; 196608];
+    let n = io::read_full(STDIN_FILENO, &mut block);
+    run_cases(&block[..n]);
+}
+
+// Runs the cases of standard input, up to 16 blocks of bytes. No case goes over the end of a block.
+pub fn run_blocks() {
+    let mut i: usize = 0;
+    while i < 16 {
+        run_block();
+        i += 1;
+    }
+}

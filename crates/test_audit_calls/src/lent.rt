@@ -1,0 +1,208 @@
+// Runs a call of an audit that is written as bytes, with what is lent to it; `commands` says how it is written.
+ghost use Prim.Native.Nat.{_≤_};
+ghost use lib.ListN.{length};
+use crate::finish::run_finish;
+use crate::fragment::run_fragment;
+use crate::held::Held;
+use crate::held::with_sheet;
+use crate::held::with_state;
+use crate::numbers::head_of;
+use crate::numbers::settings_of;
+use crate::open::run_open;
+use crate::sheet::apply_command;
+use audit_rules::settings::AuditState;
+use test_cases::reading::at_most;
+use test_cases::reading::is_set;
+use test_cases::reading::number;
+use test_cases::reading::part_end;
+use test_cases::reading::whole_read;
+use test_cases::reading::wide;
+use test_cases::writing::put;
+
+// The state that a fragment leaves. Its reads are whole, and the entries hold 999 before the call.
+fn fragment_command(
+    placements: &mut [u64],
+    singles: &mut [u64],
+    multi: &mut [u64],
+    keys: &[u64],
+    ranks: &[u64],
+    positions: &[u64],
+    identifiers: &[u8],
+    identifier_ends: &[usize],
+    bases: &[u8],
+    base_ends: &[usize],
+    marks: &[u8],
+    s: &[u8],
+    state: AuditState,
+) -> AuditState {
+    if s.len() < 37 {
+        put(b"short\n");
+        return state;
+    }
+    let head = head_of(s);
+    let first = part_end(s, 37, wide(s[29]));
+    let first_qualities = part_end(s, first, wide(s[30]));
+    let second = part_end(s, first_qualities, wide(s[35]));
+    let second_qualities = part_end(s, second, wide(s[36]));
+    let mut first_read = [0u8; 65536];
+    let mut second_read = [0u8; 65536];
+    let mut entries = [999u64; 256];
+    let n = whole_read(&mut first_read, &s[37..first], number(s, 27));
+    let m = whole_read(&mut second_read, &s[first_qualities..second], number(s, 33));
+    let e = at_most(wide(s[2]), 256);
+    run_fragment(
+        &mut entries[0..e],
+        placements,
+        singles,
+        multi,
+        keys,
+        ranks,
+        positions,
+        identifiers,
+        identifier_ends,
+        bases,
+        base_ends,
+        marks,
+        &first_read[0..n],
+        &s[first..first_qualities],
+        &second_read[0..m],
+        &s[second..second_qualities],
+        head,
+        state,
+    )
+}
+
+// A call with what is lent to it.
+fn lent_call(
+    placements: &mut [u64],
+    singles: &mut [u64],
+    multi: &mut [u64],
+    keys: &[u64],
+    ranks: &[u64],
+    positions: &[u64],
+    identifiers: &[u8],
+    identifier_ends: &[usize],
+    bases: &[u8],
+    base_ends: &[usize],
+    marks: &[u8],
+    s: &[u8],
+    held: Held,
+) -> Held
+    requires { ⌜ 9 ≤ length (now s) ⌝ }
+{
+    let code = s[0];
+    let state = held.state;
+    if code == 2 {
+        if s.len() < 20 {
+            put(b"short\n");
+            return held;
+        }
+        let left = run_open(
+            placements,
+            singles,
+            multi,
+            keys,
+            ranks,
+            positions,
+            identifiers,
+            identifier_ends,
+            bases,
+            base_ends,
+            marks,
+            is_set(s[1]),
+            settings_of(s, 9),
+        );
+        return with_state(held, left);
+    }
+    if code == 3 {
+        let left = fragment_command(
+            placements,
+            singles,
+            multi,
+            keys,
+            ranks,
+            positions,
+            identifiers,
+            identifier_ends,
+            bases,
+            base_ends,
+            marks,
+            s,
+            state,
+        );
+        return with_state(held, left);
+    }
+    if code == 4 {
+        let sheet = run_finish(
+            placements,
+            singles,
+            multi,
+            keys,
+            ranks,
+            positions,
+            identifiers,
+            identifier_ends,
+            bases,
+            base_ends,
+            marks,
+            is_set(s[1]),
+            state,
+        );
+        return with_sheet(held, sheet);
+    }
+    let sheet = held.sheet;
+    apply_command(
+        placements,
+        singles,
+        multi,
+        identifiers,
+        identifier_ends,
+        bases,
+        base_ends,
+        marks,
+        s,
+        sheet,
+    );
+    held
+}
+
+// Lends as much of each list as the command says.
+pub fn call_command(
+    placements: &mut [u64],
+    singles: &mut [u64],
+    multi: &mut [u64],
+    keys: &[u64],
+    ranks: &[u64],
+    positions: &[u64],
+    identifiers: &[u8],
+    identifier_ends: &[usize],
+    bases: &[u8],
+    base_ends: &[usize],
+    marks: &[u8],
+    s: &[u8],
+    held: Held,
+) -> Held
+    requires { ⌜ 9 ≤ length (now s) ⌝ }
+{
+    let p = at_most(wide(s[3]), placements.len());
+    let g = at_most(wide(s[4]), singles.len());
+    let m = at_most(wide(s[5]), multi.len());
+    let k = at_most(wide(s[6]), keys.len());
+    let r = at_most(wide(s[7]), ranks.len());
+    let o = at_most(wide(s[8]), positions.len());
+    lent_call(
+        &mut placements[..p],
+        &mut singles[..g],
+        &mut multi[..m],
+        &keys[..k],
+        &ranks[..r],
+        &positions[..o],
+        identifiers,
+        identifier_ends,
+        bases,
+        base_ends,
+        marks,
+        s,
+        held,
+    )
+}

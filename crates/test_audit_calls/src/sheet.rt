@@ -1,0 +1,145 @@
+// Applies the sheet of a finished audit by a command that is written as bytes; `commands` says how.
+ghost use Prim.Native.Nat.{_≤_};
+ghost use lib.ListN.{length};
+use crate::answered::put_call;
+use audit_rules::sheet::Sheet;
+use test_cases::reading::at_most;
+use test_cases::reading::wide;
+use test_cases::targets::lists_at;
+use test_cases::targets::read_ends;
+use test_cases::writing::put_numbers;
+use unitigs::apply_to_unitigs;
+
+fn run_apply(
+    rows: &mut [u64],
+    placements: &[u64],
+    singles: &[u64],
+    multi: &[u64],
+    audited_identifiers: &[u8],
+    audited_identifier_ends: &[usize],
+    audited_bases: &[u8],
+    audited_base_ends: &[usize],
+    audited_marks: &[u8],
+    identifiers: &[u8],
+    identifier_ends: &[usize],
+    bases: &[u8],
+    base_ends: &[usize],
+    marks: &[u8],
+    sheet: Sheet,
+) {
+    let answer = apply_to_unitigs(
+        rows,
+        placements,
+        singles,
+        multi,
+        audited_identifiers,
+        audited_identifier_ends,
+        audited_bases,
+        audited_base_ends,
+        audited_marks,
+        identifiers,
+        identifier_ends,
+        bases,
+        base_ends,
+        marks,
+        sheet,
+    );
+    put_call(answer, b"applied");
+    put_numbers(b"rows", rows);
+}
+
+// The targets now written in a command, in rows that hold 999.
+fn apply_written(
+    placements: &[u64],
+    singles: &[u64],
+    multi: &[u64],
+    identifiers: &[u8],
+    identifier_ends: &[usize],
+    bases: &[u8],
+    base_ends: &[usize],
+    marks: &[u8],
+    s: &[u8],
+    sheet: Sheet,
+)
+    requires { ⌜ 19 ≤ length (now s) ⌝ }
+{
+    let mut rows = [999u64; 256];
+    let r = at_most(wide(s[2]), 256);
+    let lists = lists_at(s, 9, 19);
+    let named = lists.named;
+    let ended = lists.ended;
+    let names = lists.names;
+    let sequences = lists.sequences;
+    let names_end = lists.identifiers;
+    let bases_end = lists.bases;
+    let marks_end = lists.marks;
+    let name_ends = read_ends(s, names_end, names);
+    let sequence_ends = read_ends(s, bases_end, sequences);
+    run_apply(
+        &mut rows[0..r],
+        placements,
+        singles,
+        multi,
+        identifiers,
+        identifier_ends,
+        bases,
+        base_ends,
+        marks,
+        &s[19..names_end],
+        &name_ends[0..names],
+        &s[named..bases_end],
+        &sequence_ends[0..sequences],
+        &s[ended..marks_end],
+        sheet,
+    );
+}
+
+// The targets now, or those of the case where none are written.
+pub fn apply_command(
+    placements: &[u64],
+    singles: &[u64],
+    multi: &[u64],
+    identifiers: &[u8],
+    identifier_ends: &[usize],
+    bases: &[u8],
+    base_ends: &[usize],
+    marks: &[u8],
+    s: &[u8],
+    sheet: Sheet,
+)
+    requires { ⌜ 9 ≤ length (now s) ⌝ }
+{
+    if s.len() >= 19 {
+        return apply_written(
+            placements,
+            singles,
+            multi,
+            identifiers,
+            identifier_ends,
+            bases,
+            base_ends,
+            marks,
+            s,
+            sheet,
+        );
+    }
+    let mut rows = [999u64; 256];
+    let r = at_most(wide(s[2]), 256);
+    run_apply(
+        &mut rows[0..r],
+        placements,
+        singles,
+        multi,
+        identifiers,
+        identifier_ends,
+        bases,
+        base_ends,
+        marks,
+        identifiers,
+        identifier_ends,
+        bases,
+        base_ends,
+        marks,
+        sheet,
+    );
+}

@@ -1,0 +1,72 @@
+// Targets in a case: lengths of identifier bytes, identifier ends, base bytes, base ends and marks, and elsewhere these five
+// lists, one behind the other. Lengths and ends are numbers of two bytes.
+ghost use Prim.Native.Nat.{_+_, _*_, _<_, _≤_};
+ghost use mathlib.Core.Path.{_≡_};
+ghost use lib.ListN.{length};
+ghost use Rattle.promises.specs.Slice.{old};
+ghost use Rattle.test_cases.specs.Cases.{ListsIn};
+use crate::reading::number;
+use crate::reading::part_end;
+
+// Where identifiers, their ends, bases, their ends and marks end, each where the next begins; how many ends there are of
+// identifiers and of bases.
+pub struct Lists {
+    pub identifiers: usize,
+    pub named: usize,
+    pub bases: usize,
+    pub ended: usize,
+    pub marks: usize,
+    pub names: usize,
+    pub sequences: usize,
+}
+
+// How many ends there are from a place on: n, or none where these are over 16 or past the bytes.
+fn end_count(s: &[u8], from: usize, n: usize) -> usize
+    requires { ⌜ from ≤ length (now s) ⌝ }
+    ensures { λ r. ⌜ (r ≤ 16) × ((from + r * 2 ≤ length (old s)) × (from + r * 2 < 18446744073709551616)) ⌝ }
+{
+    if 16 < n {
+        return 0;
+    }
+    if s.len() - from < n * 2 {
+        return 0;
+    }
+    n
+}
+
+// The lists from a place on, with their lengths at another.
+pub fn lists_at(s: &[u8], lengths: usize, from: usize) -> Lists
+    requires { ⌜ (lengths + 9 < length (now s)) × (from ≤ length (now s)) ⌝ }
+    ensures { λ r. ⌜ ListsIn from r (length (old s)) ⌝ }
+{
+    let identifiers = part_end(s, from, number(s, lengths));
+    let names = end_count(s, identifiers, number(s, lengths + 2));
+    let named = identifiers + names * 2;
+    let bases = part_end(s, named, number(s, lengths + 4));
+    let sequences = end_count(s, bases, number(s, lengths + 6));
+    let ended = bases + sequences * 2;
+    let marks = part_end(s, ended, number(s, lengths + 8));
+    Lists {
+        identifiers,
+        named,
+        bases,
+        ended,
+        marks,
+        names,
+        sequences,
+    }
+}
+
+// The n ends from a place on.
+pub fn read_ends(s: &[u8], from: usize, n: usize) -> [usize; 16]
+    requires { ⌜ (n ≤ 16) × (from + n * 2 ≤ length (now s)) ⌝ }
+    ensures { λ r. ⌜ 16 ≡ length r ⌝ }
+{
+    let mut ends = [0usize; 16];
+    let mut i = 0;
+    while i < n {
+        ends[i] = number(s, from + i * 2);
+        i += 1;
+    }
+    ends
+}

@@ -1,0 +1,86 @@
+// A call: its length in bytes, and then numbers of two bytes, the low one first: seed length; limit, its low half and its
+// high half; numbers lent of the entries; entries lent of keys, ranks and positions; the column with a wrong number, 1 to
+// 3, or 0, and its place there; how often the read's last byte comes again behind it; lengths of identifier bytes,
+// identifier ends, base bytes, base ends, marks and read. Then these six lists, an end as a number.
+ghost use Prim.Native.Nat.{_≤_};
+ghost use lib.ListN.{length};
+use crate::lent::Call;
+use crate::lent::run_call;
+use libc::STDIN_FILENO;
+use test_cases::reading::case_end;
+use test_cases::reading::number;
+use test_cases::reading::part_end;
+use test_cases::reading::whole_read;
+use test_cases::targets::lists_at;
+use test_cases::targets::read_ends;
+use test_cases::writing::put;
+
+// The call of a case's head.
+fn call_of(s: &[u8], records: bool) -> Call
+    requires { ⌜ 32 ≤ length (now s) ⌝ }
+{
+    Call {
+        records,
+        q: number(s, 0),
+        limit: (number(s, 2) + number(s, 4) * 65536) as u64,
+        entries: number(s, 6),
+        keys: number(s, 8),
+        ranks: number(s, 10),
+        positions: number(s, 12),
+        column: number(s, 14),
+        place: number(s, 16),
+    }
+}
+
+fn run_case(s: &[u8], records: bool) {
+    if s.len() < 32 {
+        return put(b"short\n");
+    }
+    let lists = lists_at(s, 20, 32);
+    let identifiers = lists.identifiers;
+    let named = lists.named;
+    let bases = lists.bases;
+    let ended = lists.ended;
+    let marks = lists.marks;
+    let names = lists.names;
+    let sequences = lists.sequences;
+    let identifier_ends = read_ends(s, identifiers, names);
+    let base_ends = read_ends(s, bases, sequences);
+    let end = part_end(s, marks, number(s, 30));
+    let mut read = [0u8; 65536];
+    let n = whole_read(&mut read, &s[marks..end], number(s, 18));
+    run_call(
+        call_of(s, records),
+        &s[32..identifiers],
+        &identifier_ends[0..names],
+        &s[named..bases],
+        &base_ends[0..sequences],
+        &s[ended..marks],
+        &read[0..n],
+    );
+}
+
+fn run_cases(s: &[u8], records: bool) {
+    let mut at = 0;
+    while at + 1 < s.len() {
+        let end = case_end(s, at);
+        run_case(&s[at + 2..end], records);
+        at = end;
+    }
+}
+
+fn run_block(records: bool) {
+    let mut block = [0u8; 131072];
+    let n = io::read_full(STDIN_FILENO, &mut block);
+    run_cases(&block[..n], records);
+}
+
+// Runs the calls of standard input, up to 16 blocks of bytes, with the index lent as columns or as records. No case goes
+// over the end of a block.
+pub fn run_blocks(records: bool) {
+    let mut i: usize = 0;
+    while i < 16 {
+        run_block(records);
+        i += 1;
+    }
+}
