@@ -3,68 +3,18 @@
 // lists, an end as a number; then commands, each its length and its bytes. Counters are zero at first, the columns hold
 // the index that `build` gives at 15, and sevens behind it.
 use crate::commands::run_command;
-use crate::held::Held;
-use crate::held::nothing_held;
+use crate::desk::Desk;
+use crate::desk::nothing_held;
 use libc::STDIN_FILENO;
 use postings::build;
 use test_cases::reading::case_end;
+use test_cases::targets::base_ends_in;
+use test_cases::targets::bases_in;
+use test_cases::targets::identifier_ends_in;
+use test_cases::targets::identifiers_in;
 use test_cases::targets::lists_at;
-use test_cases::targets::read_ends;
+use test_cases::targets::marks_in;
 use test_cases::writing::put;
-
-// What one command leaves to the next: the counters, the columns, state and sheet.
-struct Desk {
-    placements: [u64; 16],
-    singles: [u64; 16],
-    multi: [u64; 16],
-    keys: [u64; 256],
-    ranks: [u64; 256],
-    positions: [u64; 256],
-    held: Held,
-}
-
-// One command on what the one before it leaves.
-fn run_on(
-    desk: Desk,
-    identifiers: &[u8],
-    identifier_ends: &[usize],
-    bases: &[u8],
-    base_ends: &[usize],
-    marks: &[u8],
-    s: &[u8],
-) -> Desk {
-    let mut placements = desk.placements;
-    let mut singles = desk.singles;
-    let mut multi = desk.multi;
-    let mut keys = desk.keys;
-    let mut ranks = desk.ranks;
-    let mut positions = desk.positions;
-    let before = desk.held;
-    let held = run_command(
-        &mut placements,
-        &mut singles,
-        &mut multi,
-        &mut keys,
-        &mut ranks,
-        &mut positions,
-        identifiers,
-        identifier_ends,
-        bases,
-        base_ends,
-        marks,
-        s,
-        before,
-    );
-    Desk {
-        placements,
-        singles,
-        multi,
-        keys,
-        ranks,
-        positions,
-        held,
-    }
-}
 
 // The commands of a case, one after the other.
 fn run_commands(
@@ -80,7 +30,7 @@ fn run_commands(
     let mut at = 0;
     while at + 1 < s.len() {
         let end = case_end(s, at);
-        desk = run_on(
+        desk = run_command(
             desk,
             identifiers,
             identifier_ends,
@@ -140,22 +90,18 @@ fn run_case(s: &[u8]) {
         return put(b"short\n");
     }
     let lists = lists_at(s, 0, 10);
-    let identifiers = lists.identifiers;
-    let named = lists.named;
-    let bases = lists.bases;
-    let ended = lists.ended;
-    let marks = lists.marks;
     let names = lists.names;
     let sequences = lists.sequences;
-    let identifier_ends = read_ends(s, identifiers, names);
-    let base_ends = read_ends(s, bases, sequences);
+    let commands = lists.marks;
+    let identifier_ends = identifier_ends_in(s, lists);
+    let base_ends = base_ends_in(s, lists);
     run_targets(
-        &s[10..identifiers],
+        identifiers_in(s, lists),
         &identifier_ends[0..names],
-        &s[named..bases],
+        bases_in(s, lists),
         &base_ends[0..sequences],
-        &s[ended..marks],
-        &s[marks..],
+        marks_in(s, lists),
+        &s[commands..],
     );
 }
 

@@ -11,9 +11,11 @@
 // Ordinals, number of reads, limit and what a list is set to have eight bytes; places, how often a base comes again, the
 // counts of a state and what stands in a catalogue have two; all else has one. A count of a state from 32768 on stands for
 // one as far below the greatest of 64 bits as it is below 65535.
-use crate::held::Held;
-use crate::held::with_state;
-use crate::lent::call_command;
+ghost use Prim.Native.Nat.{_≤_};
+ghost use lib.ListN.{length};
+use crate::desk::Desk;
+use crate::desk::with_state;
+use crate::lent::lend;
 use crate::numbers::state_of;
 use test_cases::reading::at_most;
 use test_cases::reading::eight;
@@ -30,99 +32,143 @@ fn fill(numbers: &mut [u64], from: usize, to: usize, value: u64) {
     }
 }
 
-fn fill_third(
-    first: &mut [u64],
-    second: &mut [u64],
-    third: &mut [u64],
-    which: u8,
-    from: usize,
-    to: usize,
-    value: u64,
-) {
-    if which == 0 {
-        return fill(first, from, to, value);
+// Up to where a list is set: its own command and that of all counters reach it.
+fn reach(which: u8, own: u8, to: usize) -> usize {
+    if which == own {
+        return to;
     }
-    if which == 1 {
-        return fill(second, from, to, value);
+    if which == 6 {
+        if own < 3 {
+            return to;
+        }
     }
-    fill(third, from, to, value);
+    0
 }
 
-fn fill_command(
-    placements: &mut [u64],
-    singles: &mut [u64],
-    multi: &mut [u64],
-    keys: &mut [u64],
-    ranks: &mut [u64],
-    positions: &mut [u64],
-    s: &[u8],
-) {
+fn fill_counters(desk: Desk, which: u8, from: usize, to: usize, value: u64) -> Desk {
+    let mut placements = desk.placements;
+    fill(&mut placements, from, reach(which, 0, to), value);
+    let mut singles = desk.singles;
+    fill(&mut singles, from, reach(which, 1, to), value);
+    let mut multi = desk.multi;
+    fill(&mut multi, from, reach(which, 2, to), value);
+    let mut left = desk;
+    left.placements = placements;
+    left.singles = singles;
+    left.multi = multi;
+    left
+}
+
+fn fill_columns(desk: Desk, which: u8, from: usize, to: usize, value: u64) -> Desk {
+    let mut keys = desk.keys;
+    fill(&mut keys, from, reach(which, 3, to), value);
+    let mut ranks = desk.ranks;
+    fill(&mut ranks, from, reach(which, 4, to), value);
+    let mut positions = desk.positions;
+    fill(&mut positions, from, reach(which, 5, to), value);
+    let mut left = desk;
+    left.keys = keys;
+    left.ranks = ranks;
+    left.positions = positions;
+    left
+}
+
+fn fill_command(desk: Desk, s: &[u8]) -> Desk {
     if s.len() < 14 {
-        return put(b"short\n");
+        put(b"short\n");
+        return desk;
     }
     let which = s[1];
     let from = number(s, 2);
     let to = number(s, 4);
     let value = eight(s, 6);
-    if which < 3 {
-        return fill_third(placements, singles, multi, which, from, to, value);
-    }
-    if which < 6 {
-        return fill_third(keys, ranks, positions, which - 3, from, to, value);
-    }
-    fill(placements, from, to, value);
-    fill(singles, from, to, value);
-    fill(multi, from, to, value);
+    let left = fill_counters(desk, which, from, to, value);
+    fill_columns(left, which, from, to, value)
 }
 
-fn state_command(s: &[u8], held: Held) -> Held {
+fn state_command(desk: Desk, s: &[u8]) -> Desk {
     if s.len() < 70 {
         put(b"short\n");
-        return held;
+        return desk;
     }
-    with_state(held, state_of(s))
+    let held = with_state(desk.held, state_of(s));
+    let mut left = desk;
+    left.held = held;
+    left
 }
 
-pub fn run_command(
-    placements: &mut [u64],
-    singles: &mut [u64],
-    multi: &mut [u64],
-    keys: &mut [u64],
-    ranks: &mut [u64],
-    positions: &mut [u64],
+// The call with all counters and columns, of which it lends as much as the command says.
+fn call_command(
+    desk: Desk,
     identifiers: &[u8],
     identifier_ends: &[usize],
     bases: &[u8],
     base_ends: &[usize],
     marks: &[u8],
     s: &[u8],
-    held: Held,
-) -> Held {
-    if s.len() < 9 {
-        put(b"short\n");
-        return held;
-    }
-    let code = s[0];
-    if code == 0 {
-        fill_command(placements, singles, multi, keys, ranks, positions, s);
-        return held;
-    }
-    if code == 1 {
-        return state_command(s, held);
-    }
-    call_command(
-        placements,
-        singles,
-        multi,
-        keys,
-        ranks,
-        positions,
+) -> Desk
+    requires { ⌜ 9 ≤ length (now s) ⌝ }
+{
+    let mut placements = desk.placements;
+    let mut singles = desk.singles;
+    let mut multi = desk.multi;
+    let keys = desk.keys;
+    let ranks = desk.ranks;
+    let positions = desk.positions;
+    let before = desk.held;
+    let held = lend(
+        &mut placements,
+        &mut singles,
+        &mut multi,
+        &keys,
+        &ranks,
+        &positions,
         identifiers,
         identifier_ends,
         bases,
         base_ends,
         marks,
         s,
+        before,
+    );
+    Desk {
+        placements,
+        singles,
+        multi,
+        keys,
+        ranks,
+        positions,
         held,
+    }
+}
+
+pub fn run_command(
+    desk: Desk,
+    identifiers: &[u8],
+    identifier_ends: &[usize],
+    bases: &[u8],
+    base_ends: &[usize],
+    marks: &[u8],
+    s: &[u8],
+) -> Desk {
+    if s.len() < 9 {
+        put(b"short\n");
+        return desk;
+    }
+    let code = s[0];
+    if code == 0 {
+        return fill_command(desk, s);
+    }
+    if code == 1 {
+        return state_command(desk, s);
+    }
+    call_command(
+        desk,
+        identifiers,
+        identifier_ends,
+        bases,
+        base_ends,
+        marks,
+        s,
     )
 }

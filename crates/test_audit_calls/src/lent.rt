@@ -1,22 +1,24 @@
 // Runs a call of an audit that is written as bytes, with what is lent to it; `commands` says how it is written.
 ghost use Prim.Native.Nat.{_≤_};
 ghost use lib.ListN.{length};
+use crate::desk::Held;
+use crate::desk::with_sheet;
+use crate::desk::with_state;
 use crate::finish::run_finish;
 use crate::fragment::run_fragment;
-use crate::held::Held;
-use crate::held::with_sheet;
-use crate::held::with_state;
 use crate::numbers::head_of;
 use crate::numbers::settings_of;
+use crate::numbers::share;
 use crate::open::run_open;
+use crate::reads::first_length;
+use crate::reads::first_qualities;
+use crate::reads::first_read;
+use crate::reads::second_length;
+use crate::reads::second_qualities;
+use crate::reads::second_read;
 use crate::sheet::apply_command;
 use audit_rules::settings::AuditState;
-use test_cases::reading::at_most;
 use test_cases::reading::is_set;
-use test_cases::reading::number;
-use test_cases::reading::part_end;
-use test_cases::reading::whole_read;
-use test_cases::reading::wide;
 use test_cases::writing::put;
 
 // The state that a fragment leaves. Its reads are whole, and the entries hold 999 before the call.
@@ -40,16 +42,12 @@ fn fragment_command(
         return state;
     }
     let head = head_of(s);
-    let first = part_end(s, 37, wide(s[29]));
-    let first_qualities = part_end(s, first, wide(s[30]));
-    let second = part_end(s, first_qualities, wide(s[35]));
-    let second_qualities = part_end(s, second, wide(s[36]));
-    let mut first_read = [0u8; 65536];
-    let mut second_read = [0u8; 65536];
+    let first = first_read(s);
+    let n = first_length(s);
+    let second = second_read(s);
+    let m = second_length(s);
     let mut entries = [999u64; 256];
-    let n = whole_read(&mut first_read, &s[37..first], number(s, 27));
-    let m = whole_read(&mut second_read, &s[first_qualities..second], number(s, 33));
-    let e = at_most(wide(s[2]), 256);
+    let e = share(s, 2, 256);
     run_fragment(
         &mut entries[0..e],
         placements,
@@ -63,10 +61,10 @@ fn fragment_command(
         bases,
         base_ends,
         marks,
-        &first_read[0..n],
-        &s[first..first_qualities],
-        &second_read[0..m],
-        &s[second..second_qualities],
+        &first[0..n],
+        first_qualities(s),
+        &second[0..m],
+        second_qualities(s),
         head,
         state,
     )
@@ -167,7 +165,7 @@ fn lent_call(
 }
 
 // Lends as much of each list as the command says.
-pub fn call_command(
+pub fn lend(
     placements: &mut [u64],
     singles: &mut [u64],
     multi: &mut [u64],
@@ -184,12 +182,12 @@ pub fn call_command(
 ) -> Held
     requires { ⌜ 9 ≤ length (now s) ⌝ }
 {
-    let p = at_most(wide(s[3]), placements.len());
-    let g = at_most(wide(s[4]), singles.len());
-    let m = at_most(wide(s[5]), multi.len());
-    let k = at_most(wide(s[6]), keys.len());
-    let r = at_most(wide(s[7]), ranks.len());
-    let o = at_most(wide(s[8]), positions.len());
+    let p = share(s, 3, placements.len());
+    let g = share(s, 4, singles.len());
+    let m = share(s, 5, multi.len());
+    let k = share(s, 6, keys.len());
+    let r = share(s, 7, ranks.len());
+    let o = share(s, 8, positions.len());
     lent_call(
         &mut placements[..p],
         &mut singles[..g],

@@ -2,10 +2,11 @@
 mod answered;
 pub mod case;
 mod commands;
+mod desk;
 mod finish;
 mod fragment;
-mod held;
 mod lent;
 mod numbers;
 mod open;
+mod reads;
 mod sheet;

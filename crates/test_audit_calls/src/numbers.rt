@@ -1,4 +1,4 @@
-// Settings, states and heads of fragments read from bytes.
+// Settings, states and heads of fragments read from bytes, and how much of a list is lent.
 ghost use Prim.Native.Nat.{_+_, _<_, _≤_};
 ghost use mathlib.Core.Path.{_≡_};
 ghost use lib.ListN.{length};
@@ -9,9 +9,19 @@ use audit_rules::settings::AuditState;
 use audit_rules::settings::LastOrdinal;
 use audit_rules::settings::Settings;
 use ledger::Ledger;
+use test_cases::reading::at_most;
 use test_cases::reading::eight;
 use test_cases::reading::is_set;
 use test_cases::reading::number;
+use test_cases::reading::wide;
+
+// How much is lent of n numbers, by the byte at a place.
+pub fn share(s: &[u8], at: usize, n: usize) -> usize
+    requires { ⌜ at < length (now s) ⌝ }
+    ensures { λ r. ⌜ r ≤ n ⌝ }
+{
+    at_most(wide(s[at]), n)
+}
 
 // The number of two bytes at a place: from 32768 on the numbers up to the greatest of 64 bits.
 fn near(s: &[u8], at: usize) -> u64

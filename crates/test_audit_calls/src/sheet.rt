@@ -2,11 +2,14 @@
 ghost use Prim.Native.Nat.{_≤_};
 ghost use lib.ListN.{length};
 use crate::answered::put_call;
+use crate::numbers::share;
 use audit_rules::sheet::Sheet;
-use test_cases::reading::at_most;
-use test_cases::reading::wide;
+use test_cases::targets::base_ends_in;
+use test_cases::targets::bases_in;
+use test_cases::targets::identifier_ends_in;
+use test_cases::targets::identifiers_in;
 use test_cases::targets::lists_at;
-use test_cases::targets::read_ends;
+use test_cases::targets::marks_in;
 use test_cases::writing::put_numbers;
 use unitigs::apply_to_unitigs;
 
@@ -64,17 +67,12 @@ fn apply_written(
     requires { ⌜ 19 ≤ length (now s) ⌝ }
 {
     let mut rows = [999u64; 256];
-    let r = at_most(wide(s[2]), 256);
+    let r = share(s, 2, 256);
     let lists = lists_at(s, 9, 19);
-    let named = lists.named;
-    let ended = lists.ended;
     let names = lists.names;
     let sequences = lists.sequences;
-    let names_end = lists.identifiers;
-    let bases_end = lists.bases;
-    let marks_end = lists.marks;
-    let name_ends = read_ends(s, names_end, names);
-    let sequence_ends = read_ends(s, bases_end, sequences);
+    let name_ends = identifier_ends_in(s, lists);
+    let sequence_ends = base_ends_in(s, lists);
     run_apply(
         &mut rows[0..r],
         placements,
@@ -85,11 +83,11 @@ fn apply_written(
         bases,
         base_ends,
         marks,
-        &s[19..names_end],
+        identifiers_in(s, lists),
         &name_ends[0..names],
-        &s[named..bases_end],
+        bases_in(s, lists),
         &sequence_ends[0..sequences],
-        &s[ended..marks_end],
+        marks_in(s, lists),
         sheet,
     );
 }
@@ -124,7 +122,7 @@ pub fn apply_command(
         );
     }
     let mut rows = [999u64; 256];
-    let r = at_most(wide(s[2]), 256);
+    let r = share(s, 2, 256);
     run_apply(
         &mut rows[0..r],
         placements,

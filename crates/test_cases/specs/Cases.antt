@@ -3,9 +3,9 @@ use Prim.Native.Nat.{ℕ, _+_, _*_, _≤_}
 use mathlib.Core.Path.{_≡_}
 use Rattle.test_cases.specs.declared.targets.Lists.{Lists}
 
--- the lists of targets from a place on, within n bytes
-pub record ListsIn (from : ℕ) (l : Lists) (n : ℕ) : Type 0 where
-  pub behind : from ≤ l .identifiers
+-- the lists of targets, within n bytes
+pub record ListsIn (l : Lists) (n : ℕ) : Type 0 where
+  pub behind : l .start ≤ l .identifiers
   pub few-names : l .names ≤ 16
   pub names-end : l .named ≡ l .identifiers + l .names * 2
   pub bases-behind : l .named ≤ l .bases

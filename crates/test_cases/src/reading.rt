@@ -2,7 +2,7 @@
 ghost use Prim.Native.Nat.{_+_, _*_, _<_, _≤_};
 ghost use mathlib.Core.Path.{_≡_};
 ghost use lib.ListN.{length};
-ghost use Rattle.promises.specs.Slice.{old, new};
+ghost use Rattle.promises.specs.Slice.{old};
 
 pub fn at_most(n: usize, most: usize) -> usize
     ensures { λ r. ⌜ r ≤ most ⌝ }
@@ -60,20 +60,40 @@ pub fn case_end(s: &[u8], at: usize) -> usize
     part_end(s, at + 2, number(s, at))
 }
 
-// The bytes of a read: those written, and the last of them as often again as there are more.
-pub fn whole_read(room: &mut [u8], written: &[u8], more: usize) -> usize
+// At most n bytes from a place on.
+pub fn part(s: &[u8], from: usize, n: usize) -> &[u8]
+    requires { ⌜ from ≤ length (now s) ⌝ }
+{
+    let end = part_end(s, from, n);
+    &s[from..end]
+}
+
+// How many bytes a read has: those written, and the last of them as often again as there are more.
+pub fn whole_length(written: &[u8], more: usize) -> usize
     requires { ⌜ more < 65536 ⌝ }
-    ensures { λ r. ⌜ r ≤ length (new room) ⌝ }
+    ensures { λ r. ⌜ r ≤ 65536 ⌝ }
 {
     if written.len() < 1 {
         return 0;
     }
+    at_most(at_most(written.len(), 65536) + more, 65536)
+}
+
+// The bytes of such a read.
+pub fn whole_read(written: &[u8], more: usize) -> [u8; 65536]
+    requires { ⌜ more < 65536 ⌝ }
+    ensures { λ r. ⌜ 65536 ≡ length r ⌝ }
+{
+    let mut read = [0u8; 65536];
+    if written.len() < 1 {
+        return read;
+    }
     let last = written.len() - 1;
-    let n = at_most(at_most(written.len(), 65536) + more, room.len());
+    let n = whole_length(written, more);
     let mut i = 0;
     while i < n {
-        room[i] = written[at_most(i, last)];
+        read[i] = written[at_most(i, last)];
         i += 1;
     }
-    n
+    read
 }

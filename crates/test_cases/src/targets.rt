@@ -8,9 +8,10 @@ ghost use Rattle.test_cases.specs.Cases.{ListsIn};
 use crate::reading::number;
 use crate::reading::part_end;
 
-// Where identifiers, their ends, bases, their ends and marks end, each where the next begins; how many ends there are of
-// identifiers and of bases.
+// Where the lists start; where identifiers, their ends, bases, their ends and marks end, each where the next begins; how many
+// ends there are of identifiers and of bases.
 pub struct Lists {
+    pub start: usize,
     pub identifiers: usize,
     pub named: usize,
     pub bases: usize,
@@ -35,11 +36,11 @@ fn end_count(s: &[u8], from: usize, n: usize) -> usize
 }
 
 // The lists from a place on, with their lengths at another.
-pub fn lists_at(s: &[u8], lengths: usize, from: usize) -> Lists
-    requires { ⌜ (lengths + 9 < length (now s)) × (from ≤ length (now s)) ⌝ }
-    ensures { λ r. ⌜ ListsIn from r (length (old s)) ⌝ }
+pub fn lists_at(s: &[u8], lengths: usize, start: usize) -> Lists
+    requires { ⌜ (lengths + 9 < length (now s)) × (start ≤ length (now s)) ⌝ }
+    ensures { λ r. ⌜ ListsIn r (length (old s)) ⌝ }
 {
-    let identifiers = part_end(s, from, number(s, lengths));
+    let identifiers = part_end(s, start, number(s, lengths));
     let names = end_count(s, identifiers, number(s, lengths + 2));
     let named = identifiers + names * 2;
     let bases = part_end(s, named, number(s, lengths + 4));
@@ -47,6 +48,7 @@ pub fn lists_at(s: &[u8], lengths: usize, from: usize) -> Lists
     let ended = bases + sequences * 2;
     let marks = part_end(s, ended, number(s, lengths + 8));
     Lists {
+        start,
         identifiers,
         named,
         bases,
@@ -58,7 +60,7 @@ pub fn lists_at(s: &[u8], lengths: usize, from: usize) -> Lists
 }
 
 // The n ends from a place on.
-pub fn read_ends(s: &[u8], from: usize, n: usize) -> [usize; 16]
+fn read_ends(s: &[u8], from: usize, n: usize) -> [usize; 16]
     requires { ⌜ (n ≤ 16) × (from + n * 2 ≤ length (now s)) ⌝ }
     ensures { λ r. ⌜ 16 ≡ length r ⌝ }
 {
@@ -69,4 +71,42 @@ pub fn read_ends(s: &[u8], from: usize, n: usize) -> [usize; 16]
         i += 1;
     }
     ends
+}
+
+pub fn identifiers_in(s: &[u8], lists: Lists) -> &[u8]
+    requires { ⌜ ListsIn lists (length (now s)) ⌝ }
+{
+    let start = lists.start;
+    let end = lists.identifiers;
+    &s[start..end]
+}
+
+pub fn identifier_ends_in(s: &[u8], lists: Lists) -> [usize; 16]
+    requires { ⌜ ListsIn lists (length (now s)) ⌝ }
+    ensures { λ r. ⌜ 16 ≡ length r ⌝ }
+{
+    read_ends(s, lists.identifiers, lists.names)
+}
+
+pub fn bases_in(s: &[u8], lists: Lists) -> &[u8]
+    requires { ⌜ ListsIn lists (length (now s)) ⌝ }
+{
+    let start = lists.named;
+    let end = lists.bases;
+    &s[start..end]
+}
+
+pub fn base_ends_in(s: &[u8], lists: Lists) -> [usize; 16]
+    requires { ⌜ ListsIn lists (length (now s)) ⌝ }
+    ensures { λ r. ⌜ 16 ≡ length r ⌝ }
+{
+    read_ends(s, lists.bases, lists.sequences)
+}
+
+pub fn marks_in(s: &[u8], lists: Lists) -> &[u8]
+    requires { ⌜ ListsIn lists (length (now s)) ⌝ }
+{
+    let start = lists.ended;
+    let end = lists.marks;
+    &s[start..end]
 }

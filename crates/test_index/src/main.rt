@@ -16,8 +16,12 @@ use postings::build;
 use test_cases::reading::at_most;
 use test_cases::reading::case_end;
 use test_cases::reading::number;
+use test_cases::targets::base_ends_in;
+use test_cases::targets::bases_in;
+use test_cases::targets::identifier_ends_in;
+use test_cases::targets::identifiers_in;
 use test_cases::targets::lists_at;
-use test_cases::targets::read_ends;
+use test_cases::targets::marks_in;
 use test_cases::writing::put;
 use test_cases::writing::put_line;
 use test_cases::writing::put_number;
@@ -148,22 +152,17 @@ fn run_catalogue(s: &[u8]) {
         return put(b"short\n");
     }
     let lists = lists_at(s, 9, 19);
-    let identifiers = lists.identifiers;
-    let named = lists.named;
-    let bases = lists.bases;
-    let ended = lists.ended;
-    let marks = lists.marks;
     let names = lists.names;
     let sequences = lists.sequences;
-    let identifier_ends = read_ends(s, identifiers, names);
-    let base_ends = read_ends(s, bases, sequences);
+    let identifier_ends = identifier_ends_in(s, lists);
+    let base_ends = base_ends_in(s, lists);
     run_calls(
         lent(s),
-        &s[19..identifiers],
+        identifiers_in(s, lists),
         &identifier_ends[0..names],
-        &s[named..bases],
+        bases_in(s, lists),
         &base_ends[0..sequences],
-        &s[ended..marks],
+        marks_in(s, lists),
         number(s, 1),
     );
 }

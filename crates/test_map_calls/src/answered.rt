@@ -7,7 +7,7 @@ use test_cases::writing::put;
 use test_cases::writing::put_number;
 use test_cases::writing::put_numbers;
 
-fn put_work(work: MappingWork) {
+pub fn put_work(work: MappingWork) {
     put_number(b" ", work.lookups);
     put_number(b" ", work.hits);
     put_number(b" ", work.examined);

@@ -9,10 +9,15 @@ use crate::lent::run_call;
 use libc::STDIN_FILENO;
 use test_cases::reading::case_end;
 use test_cases::reading::number;
-use test_cases::reading::part_end;
+use test_cases::reading::part;
+use test_cases::reading::whole_length;
 use test_cases::reading::whole_read;
+use test_cases::targets::base_ends_in;
+use test_cases::targets::bases_in;
+use test_cases::targets::identifier_ends_in;
+use test_cases::targets::identifiers_in;
 use test_cases::targets::lists_at;
-use test_cases::targets::read_ends;
+use test_cases::targets::marks_in;
 use test_cases::writing::put;
 
 // The call of a case's head.
@@ -37,25 +42,21 @@ fn run_case(s: &[u8], records: bool) {
         return put(b"short\n");
     }
     let lists = lists_at(s, 20, 32);
-    let identifiers = lists.identifiers;
-    let named = lists.named;
-    let bases = lists.bases;
-    let ended = lists.ended;
-    let marks = lists.marks;
     let names = lists.names;
     let sequences = lists.sequences;
-    let identifier_ends = read_ends(s, identifiers, names);
-    let base_ends = read_ends(s, bases, sequences);
-    let end = part_end(s, marks, number(s, 30));
-    let mut read = [0u8; 65536];
-    let n = whole_read(&mut read, &s[marks..end], number(s, 18));
+    let identifier_ends = identifier_ends_in(s, lists);
+    let base_ends = base_ends_in(s, lists);
+    let written = part(s, lists.marks, number(s, 30));
+    let more = number(s, 18);
+    let read = whole_read(written, more);
+    let n = whole_length(written, more);
     run_call(
         call_of(s, records),
-        &s[32..identifiers],
+        identifiers_in(s, lists),
         &identifier_ends[0..names],
-        &s[named..bases],
+        bases_in(s, lists),
         &base_ends[0..sequences],
-        &s[ended..marks],
+        marks_in(s, lists),
         &read[0..n],
     );
 }

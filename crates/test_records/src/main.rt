@@ -1,6 +1,9 @@
 // Runs the two forms on the catalogue of one target ACGTACGT with seeds of three bases, whose index is
 // (6,0,0) (6,0,4) (27,0,1) (27,0,5) (44,0,2) (49,0,3).
+ghost use mathlib.Core.Path.{_≡_};
+ghost use lib.ListN.{length};
 use candidates::cursor::OrientationCursor;
+use copying::SeedPosting;
 use index_search::work::MappingWork;
 use moving::Step;
 use moving::advanced;
@@ -8,10 +11,10 @@ use postings::build;
 use record_arrays::map_array;
 use test_cases::reading::at_most;
 use test_cases::writing::put;
-use test_cases::writing::put_line;
 use test_cases::writing::put_number;
 use test_cases::writing::put_numbers;
 use test_map_calls::answered::put_answer;
+use test_map_calls::answered::put_work;
 use test_map_calls::records::records_of;
 
 fn put_step(step: Step) {
@@ -28,11 +31,9 @@ fn put_step(step: Step) {
     put_number(b" ", cursor.offset as u64);
     put_number(b" ", cursor.next as u64);
     put_number(b" ", cursor.end as u64);
-    put_number(b", work ", work.lookups);
-    put_number(b" ", work.hits);
-    put_number(b" ", work.examined);
-    put_number(b" ", work.comparisons);
-    put_line(b" ", work.seen);
+    put(b", work");
+    put_work(work);
+    put(b"\n");
 }
 
 // Moves a cursor on for a read of n bases, with a seed at an offset and a count of postings examined before.
@@ -65,6 +66,35 @@ fn run_cursor(next: usize, end: usize, offset: usize, n: usize, examined: u64) {
     put_step(step);
 }
 
+// The index as records.
+fn index() -> [SeedPosting; 256]
+    ensures { λ r. ⌜ 256 ≡ length r ⌝ }
+{
+    let identifier_ends = [1usize];
+    let base_ends = [8usize];
+    let mut ks = [0u64; 6];
+    let mut rs = [0u64; 6];
+    let mut os = [0u64; 6];
+    build(
+        &mut ks,
+        &mut rs,
+        &mut os,
+        b"t",
+        &identifier_ends,
+        b"ACGTACGT",
+        &base_ends,
+        b"\0",
+        3,
+    );
+    records_of(&ks, &rs, &os)
+}
+
+fn put_columns(keys: &[u64], ranks: &[u64], positions: &[u64]) {
+    put_numbers(b"keys", keys);
+    put_numbers(b"ranks", ranks);
+    put_numbers(b"positions", positions);
+}
+
 // Maps a read with the first n records of the index, and writes the answer and what is left in the buffers.
 fn run_lent(
     entries: &mut [u64],
@@ -75,46 +105,26 @@ fn run_lent(
     n: usize,
     read: &[u8],
 ) {
-    let identifiers = [116u8];
     let identifier_ends = [1usize];
-    let bases = [65u8, 67, 71, 84, 65, 67, 71, 84];
     let base_ends = [8usize];
-    let marks = [0u8];
-    let mut ks = [0u64; 6];
-    let mut rs = [0u64; 6];
-    let mut os = [0u64; 6];
-    build(
-        &mut ks,
-        &mut rs,
-        &mut os,
-        &identifiers,
-        &identifier_ends,
-        &bases,
-        &base_ends,
-        &marks,
-        3,
-    );
-    let records = records_of(&ks, &rs, &os);
     let answer = map_array(
         entries,
         keys,
         ranks,
         positions,
-        records,
+        index(),
         at_most(n, 256),
-        &identifiers,
+        b"t",
         &identifier_ends,
-        &bases,
+        b"ACGTACGT",
         &base_ends,
-        &marks,
+        b"\0",
         q,
         read,
         10,
     );
     put_answer(answer, entries);
-    put_numbers(b"keys", keys);
-    put_numbers(b"ranks", ranks);
-    put_numbers(b"positions", positions);
+    put_columns(keys, ranks, positions);
 }
 
 // Lends columns of these lengths that hold sevens.

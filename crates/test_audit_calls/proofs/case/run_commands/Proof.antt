@@ -21,20 +21,20 @@ add-loop c = search needs
 case-end-requires : tie.Need-case-end-requires Inv-loop μ-loop
 case-end-requires c κs = search needs
 
-add-run-on : tie.Need-add-run-on Inv-loop μ-loop
-add-run-on c = search needs
+add-run-command : tie.Need-add-run-command Inv-loop μ-loop
+add-run-command c = search needs
 
-sub-run-on : tie.Need-sub-run-on Inv-loop μ-loop
-sub-run-on c = search needs
+sub-run-command : tie.Need-sub-run-command Inv-loop μ-loop
+sub-run-command c = search needs
 
-part-run-on-start : tie.Need-part-run-on-start Inv-loop μ-loop
-part-run-on-start c = search needs
+part-run-command-start : tie.Need-part-run-command-start Inv-loop μ-loop
+part-run-command-start c = search needs
 
-part-run-on-end : tie.Need-part-run-on-end Inv-loop μ-loop
-part-run-on-end c = search needs
+part-run-command-end : tie.Need-part-run-command-end Inv-loop μ-loop
+part-run-command-end c = search needs
 
-run-on-requires : tie.Need-run-on-requires Inv-loop μ-loop
-run-on-requires c κs = search needs
+run-command-requires : tie.Need-run-command-requires Inv-loop μ-loop
+run-command-requires c κs = search needs
 
 loop-less : tie.Need-loop-less Inv-loop μ-loop
 loop-less c = search needs
@@ -54,11 +54,11 @@ run-commands-spec =
     loop-holds
     add-loop
     case-end-requires
-    add-run-on
-    sub-run-on
-    part-run-on-start
-    part-run-on-end
-    run-on-requires
+    add-run-command
+    sub-run-command
+    part-run-command-start
+    part-run-command-end
+    run-command-requires
     loop-less
     loop-again
     returns)

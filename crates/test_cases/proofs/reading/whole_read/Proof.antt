@@ -1,17 +1,17 @@
--- `test_cases::reading::whole_read` meets its contract. The invariant: the count is within the room, which keeps its length.
+-- `test_cases::reading::whole_read` meets its contract. The invariant: there is room for the bytes, and the array keeps its length.
 -- Assumes nothing.
-use mathlib.Core.Path.{_≡_}
 use borrow.Author.Needs.{needs}
 use Prim.Native.Nat.{_≤_, _<_, _-_}
+use mathlib.Core.Path.{_≡_}
 use lib.ListN.{length}
 use Rattle.test_cases.proofs.reading.whole_read.Statement.{statement}
 use Rattle.test_cases.proofs.reading.whole_read.Tie as tie
 
 abbrev Inv-loop : tie.InvT-loop
-Inv-loop room₀ written more last n i₀ room i = (n ≤ length room₀) × ((last < length written) × (length room ≡ length room₀))
+Inv-loop written more read₀ last n i₀ read i = (n ≤ 65536) × ((last < length written) × (length read ≡ 65536))
 
 abbrev μ-loop : tie.MeasureT-loop
-μ-loop room₀ written more last n i₀ room i = n - i
+μ-loop written more read₀ last n i₀ read i = n - i
 
 returns : tie.Need-returns Inv-loop μ-loop
 returns c = search needs
@@ -19,26 +19,20 @@ returns c = search needs
 sub-last : tie.Need-sub-last Inv-loop μ-loop
 sub-last c = search needs
 
-at-most-requires : tie.Need-at-most-requires Inv-loop μ-loop
-at-most-requires c κs = search needs
-
-add-at-most : tie.Need-add-at-most Inv-loop μ-loop
-add-at-most c = search needs
-
-at-most-requires-2 : tie.Need-at-most-requires-2 Inv-loop μ-loop
-at-most-requires-2 c κs = search needs
+whole-length-requires : tie.Need-whole-length-requires Inv-loop μ-loop
+whole-length-requires c κs = search needs
 
 loop-holds : tie.Need-loop-holds Inv-loop μ-loop
 loop-holds c = search needs
 
-at-most-requires-3 : tie.Need-at-most-requires-3 Inv-loop μ-loop
-at-most-requires-3 c κs = search needs
+at-most-requires : tie.Need-at-most-requires Inv-loop μ-loop
+at-most-requires c κs = search needs
 
-shared-slice-read-room : tie.Need-shared-slice-read-room Inv-loop μ-loop
-shared-slice-read-room c = search needs
+shared-slice-read-read : tie.Need-shared-slice-read-read Inv-loop μ-loop
+shared-slice-read-read c = search needs
 
-slice-write-room : tie.Need-slice-write-room Inv-loop μ-loop
-slice-write-room c = search needs
+array-write-read : tie.Need-array-write-read Inv-loop μ-loop
+array-write-read c = search needs
 
 add-i : tie.Need-add-i Inv-loop μ-loop
 add-i c = search needs
@@ -48,9 +42,6 @@ loop-less c = search needs
 
 loop-again : tie.Need-loop-again Inv-loop μ-loop
 loop-again c = search needs
-
-same-length : tie.Need-same-length Inv-loop μ-loop
-same-length c = search needs
 
 returns-2 : tie.Need-returns-2 Inv-loop μ-loop
 returns-2 c = search needs
@@ -63,15 +54,12 @@ whole-read-spec =
     μ-loop
     returns
     sub-last
-    at-most-requires
-    add-at-most
-    at-most-requires-2
+    whole-length-requires
     loop-holds
-    at-most-requires-3
-    shared-slice-read-room
-    slice-write-room
+    at-most-requires
+    shared-slice-read-read
+    array-write-read
     add-i
     loop-less
     loop-again
-    same-length
     returns-2)

@@ -1,4 +1,4 @@
-// State and sheet, which one command leaves to the next.
+// What one command of a case leaves to the next.
 use audit_rules::settings::AuditInputMode;
 use audit_rules::settings::AuditState;
 use audit_rules::settings::LastOrdinal;
@@ -9,9 +9,21 @@ use audit_rules::sheet::Shown;
 use audit_rules::sheet::Status;
 use ledger::Ledger;
 
+// State and sheet.
 pub struct Held {
     pub state: AuditState,
     pub sheet: Sheet,
+}
+
+// The counters, the columns of the index, state and sheet.
+pub struct Desk {
+    pub placements: [u64; 16],
+    pub singles: [u64; 16],
+    pub multi: [u64; 16],
+    pub keys: [u64; 256],
+    pub ranks: [u64; 256],
+    pub positions: [u64; 256],
+    pub held: Held,
 }
 
 // No last ordinal, every number zero, and the sheet of nothing.
