@@ -1,5 +1,4 @@
 // What the calls of an audit answer and leave, written as lines of numbers.
-use answers::answer::Mapping;
 use audit_rules::calls::CallAnswer;
 use audit_rules::calls::FragmentAnswer;
 use audit_rules::settings::AuditInputMode;
@@ -30,10 +29,13 @@ fn flag_number(flag: bool) -> u64 {
 
 fn put_settings(settings: Settings) {
     let mode = settings.mode;
-    put_number(b"settings ", mode_number(mode));
-    put_number(b" ", flag_number(settings.remap));
-    put_number(b" ", settings.floor as u64);
-    put_line(b" ", settings.limit);
+    let numbers = [
+        mode_number(mode),
+        flag_number(settings.remap),
+        settings.floor as u64,
+        settings.limit,
+    ];
+    put_numbers(b"settings", &numbers);
 }
 
 fn put_ordinal(last: LastOrdinal) {
@@ -48,10 +50,13 @@ fn put_ledger(ledger: Ledger) {
     let reads = ledger.reads;
     put_numbers(b"table", &table);
     put_numbers(b"reads", &reads);
-    put_number(b"totals ", ledger.placements);
-    put_number(b" ", ledger.singles);
-    put_number(b" ", ledger.multi);
-    put_line(b" ", flag_number(ledger.indeterminate));
+    let totals = [
+        ledger.placements,
+        ledger.singles,
+        ledger.multi,
+        flag_number(ledger.indeterminate),
+    ];
+    put_numbers(b"totals", &totals);
 }
 
 pub fn put_state(state: AuditState) {
@@ -69,37 +74,30 @@ pub fn put_counters(placements: &[u64], singles: &[u64], multi: &[u64]) {
     put_numbers(b"multi", multi);
 }
 
-// The answer of a call, with a word for an accepted one.
+// The answer of a call, with the line of an accepted one.
 pub fn put_call(answer: CallAnswer, accepted: &[u8]) {
     match answer {
-        CallAnswer::Refused(n) => put_number(b"refused ", n),
+        CallAnswer::Refused(n) => put_line(b"refused ", n),
         CallAnswer::Accepted => put(accepted),
     }
-    put(b"\n");
-}
-
-fn put_row(row: Mapping) {
-    put_mapping(row);
-    put(b"\n");
 }
 
 pub fn put_fragment(answer: FragmentAnswer) {
     match answer {
         FragmentAnswer::Refused(n) => put_line(b"refused ", n),
-        FragmentAnswer::Single(row) => put_row(row),
+        FragmentAnswer::Single(row) => put_mapping(row),
         FragmentAnswer::Paired(rows) => {
             let first = rows.first;
             let second = rows.second;
-            put_row(first);
-            put_row(second);
+            put_mapping(first);
+            put_mapping(second);
         }
     }
 }
 
 fn put_totals(totals: PlacementTotals) {
-    put_number(b" ", totals.placements);
-    put_number(b" ", totals.singles);
-    put_line(b" ", totals.multi);
+    let numbers = [totals.placements, totals.singles, totals.multi];
+    put_numbers(b"", &numbers);
 }
 
 pub fn put_sheet(sheet: Sheet) {

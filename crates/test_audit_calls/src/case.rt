@@ -8,6 +8,7 @@ use crate::desk::nothing_held;
 use libc::STDIN_FILENO;
 use postings::build;
 use test_cases::reading::case_end;
+use test_cases::reading::room;
 use test_cases::targets::base_ends_in;
 use test_cases::targets::bases_in;
 use test_cases::targets::identifier_ends_in;
@@ -115,9 +116,9 @@ fn run_cases(s: &[u8]) {
 }
 
 fn run_block() {
-    let mut block = [0u8; 196608];
+    let mut block = room();
     let n = io::read_full(STDIN_FILENO, &mut block);
-    run_cases(&block[..n]);
+    run_cases(&block[0..n]);
 }
 
 // Runs the cases of standard input, up to 16 blocks of bytes. No case goes over the end of a block.

@@ -10,7 +10,7 @@ use audit_rules::sheet::Sheet;
 fn put_finish(finished: Finish) -> Sheet {
     let answer = finished.answer;
     let sheet = finished.sheet;
-    put_call(answer, b"finished");
+    put_call(answer, b"finished\n");
     put_sheet(sheet);
     sheet
 }

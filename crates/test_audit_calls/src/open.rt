@@ -11,7 +11,7 @@ use audit_rules::settings::Settings;
 fn put_opening(opening: Opening, placements: &[u64], singles: &[u64], multi: &[u64]) -> AuditState {
     let answer = opening.answer;
     let state = opening.state;
-    put_call(answer, b"opened");
+    put_call(answer, b"opened\n");
     put_state(state);
     put_counters(placements, singles, multi);
     state

@@ -47,7 +47,7 @@ fn run_apply(
         marks,
         sheet,
     );
-    put_call(answer, b"applied");
+    put_call(answer, b"applied\n");
     put_numbers(b"rows", rows);
 }
 

@@ -91,5 +91,5 @@ fn main() {
     put_bytes();
     let mut buffer = io::large_buffer();
     let n = io::read_full(STDIN_FILENO, &mut buffer);
-    judge_lines(&buffer[..n]);
+    judge_lines(&buffer[0..n]);
 }

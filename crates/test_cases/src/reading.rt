@@ -52,6 +52,13 @@ pub fn part_end(s: &[u8], from: usize, n: usize) -> usize
     from + at_most(n, s.len() - from)
 }
 
+// Room for a block of standard input.
+pub fn room() -> [u8; 393216]
+    ensures { λ r. ⌜ 393216 ≡ length r ⌝ }
+{
+    [0u8; 393216]
+}
+
 // Where the case ends whose length stands in the two bytes at a place.
 pub fn case_end(s: &[u8], at: usize) -> usize
     requires { ⌜ at + 1 < length (now s) ⌝ }

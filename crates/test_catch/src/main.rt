@@ -6,6 +6,7 @@ use libc::STDOUT_FILENO;
 use streams::run_stream;
 use test_cases::reading::case_end;
 use test_cases::reading::part_end;
+use test_cases::reading::room;
 use test_cases::reading::wide;
 use test_cases::writing::put;
 
@@ -52,7 +53,7 @@ fn main() {
         return put(b"no file\n");
     }
     os::unlink(&name);
-    let mut block = [0u8; 393216];
+    let mut block = room();
     let n = io::read_full(STDIN_FILENO, &mut block);
-    run_cases(file, &block[..n]);
+    run_cases(file, &block[0..n]);
 }

@@ -24,7 +24,6 @@ use test_cases::targets::lists_at;
 use test_cases::targets::marks_in;
 use test_cases::writing::put;
 use test_cases::writing::put_line;
-use test_cases::writing::put_number;
 use test_cases::writing::put_numbers;
 use tests::run_tests;
 
@@ -42,8 +41,8 @@ fn put_plan(p: IndexPlan) {
     match p {
         IndexPlan::Refused(n) => put_line(b"plan refused ", n),
         IndexPlan::Planned(k) => {
-            put_number(b"plan ", k.targets as u64);
-            put_line(b" ", k.postings as u64);
+            let numbers = [k.targets as u64, k.postings as u64];
+            put_numbers(b"plan", &numbers);
         }
     }
 }
@@ -189,5 +188,5 @@ fn run_cases(s: &[u8]) {
 fn main() {
     let mut buffer = io::large_buffer();
     let n = io::read_full(STDIN_FILENO, &mut buffer);
-    run_cases(&buffer[..n]);
+    run_cases(&buffer[0..n]);
 }

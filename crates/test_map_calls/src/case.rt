@@ -10,6 +10,7 @@ use libc::STDIN_FILENO;
 use test_cases::reading::case_end;
 use test_cases::reading::number;
 use test_cases::reading::part;
+use test_cases::reading::room;
 use test_cases::reading::whole_length;
 use test_cases::reading::whole_read;
 use test_cases::targets::base_ends_in;
@@ -71,9 +72,9 @@ fn run_cases(s: &[u8], records: bool) {
 }
 
 fn run_block(records: bool) {
-    let mut block = [0u8; 131072];
+    let mut block = room();
     let n = io::read_full(STDIN_FILENO, &mut block);
-    run_cases(&block[..n], records);
+    run_cases(&block[0..n], records);
 }
 
 // Runs the calls of standard input, up to 16 blocks of bytes, with the index lent as columns or as records. No case goes

@@ -14,7 +14,6 @@ use test_cases::writing::put;
 use test_cases::writing::put_number;
 use test_cases::writing::put_numbers;
 use test_map_calls::answered::put_answer;
-use test_map_calls::answered::put_work;
 use test_map_calls::records::records_of;
 
 fn put_step(step: Step) {
@@ -31,9 +30,14 @@ fn put_step(step: Step) {
     put_number(b" ", cursor.offset as u64);
     put_number(b" ", cursor.next as u64);
     put_number(b" ", cursor.end as u64);
-    put(b", work");
-    put_work(work);
-    put(b"\n");
+    let counts = [
+        work.lookups,
+        work.hits,
+        work.examined,
+        work.comparisons,
+        work.seen,
+    ];
+    put_numbers(b", work", &counts);
 }
 
 // Moves a cursor on for a read of n bases, with a seed at an offset and a count of postings examined before.
