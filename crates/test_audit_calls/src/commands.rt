@@ -13,10 +13,10 @@
 // one as far below the greatest of 64 bits as it is below 65535.
 ghost use Prim.Native.Nat.{_≤_};
 ghost use lib.ListN.{length};
-use crate::desk::Desk;
-use crate::desk::with_state;
 use crate::lent::lend;
-use crate::numbers::state_of;
+use test_audit_io::desk::Desk;
+use test_audit_io::desk::with_state;
+use test_audit_io::numbers::state_of;
 use test_cases::reading::at_most;
 use test_cases::reading::eight;
 use test_cases::reading::number;

@@ -1,11 +1,11 @@
 // Finishes an audit, by the index or plain, and writes what the call answers.
-use crate::answered::put_call;
-use crate::answered::put_sheet;
 use audit::finish::finish;
 use audit::finish::plain_finish;
 use audit_rules::calls::Finish;
 use audit_rules::settings::AuditState;
 use audit_rules::sheet::Sheet;
+use test_audit_io::answered::put_call;
+use test_audit_io::answered::put_sheet;
 
 fn put_finish(finished: Finish) -> Sheet {
     let answer = finished.answer;

@@ -1,24 +1,13 @@
 // Audits a fragment, by the index or plain, and writes what the call answers and leaves.
-use crate::answered::put_counters;
-use crate::answered::put_fragment;
-use crate::answered::put_state;
 use audit::fragment::fragment;
 use audit::fragment::plain_fragment;
 use audit_rules::calls::FragmentAudit;
 use audit_rules::settings::AuditState;
-use audit_rules::settings::MateRole;
+use test_audit_io::answered::put_counters;
+use test_audit_io::answered::put_fragment;
+use test_audit_io::answered::put_state;
+use test_audit_io::numbers::FragmentHead;
 use test_cases::writing::put_numbers;
-
-// The numbers of a fragment, and of its two reads, that are no lists.
-pub struct FragmentHead {
-    pub plain: bool,
-    pub ordinal: u64,
-    pub count: usize,
-    pub first_role: MateRole,
-    pub first_present: bool,
-    pub second_role: MateRole,
-    pub second_present: bool,
-}
 
 fn put_audit(
     audited: FragmentAudit,

@@ -1,23 +1,23 @@
 // Runs a call of an audit that is written as bytes, with what is lent to it; `commands` says how it is written.
 ghost use Prim.Native.Nat.{_≤_};
 ghost use lib.ListN.{length};
-use crate::desk::Held;
-use crate::desk::with_sheet;
-use crate::desk::with_state;
 use crate::finish::run_finish;
 use crate::fragment::run_fragment;
-use crate::numbers::head_of;
-use crate::numbers::settings_of;
-use crate::numbers::share;
 use crate::open::run_open;
-use crate::reads::first_length;
-use crate::reads::first_qualities;
-use crate::reads::first_read;
-use crate::reads::second_length;
-use crate::reads::second_qualities;
-use crate::reads::second_read;
 use crate::sheet::apply_command;
 use audit_rules::settings::AuditState;
+use test_audit_io::desk::Held;
+use test_audit_io::desk::with_sheet;
+use test_audit_io::desk::with_state;
+use test_audit_io::numbers::head_of;
+use test_audit_io::numbers::settings_of;
+use test_audit_io::numbers::share;
+use test_audit_io::reads::first_length;
+use test_audit_io::reads::first_qualities;
+use test_audit_io::reads::first_read;
+use test_audit_io::reads::second_length;
+use test_audit_io::reads::second_qualities;
+use test_audit_io::reads::second_read;
 use test_cases::reading::is_set;
 use test_cases::writing::put;
 

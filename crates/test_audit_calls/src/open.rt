@@ -1,12 +1,12 @@
 // Opens an audit, by the index or plain, and writes what the call answers and leaves.
-use crate::answered::put_call;
-use crate::answered::put_counters;
-use crate::answered::put_state;
 use audit::open::open;
 use audit::open::plain_open;
 use audit_rules::calls::Opening;
 use audit_rules::settings::AuditState;
 use audit_rules::settings::Settings;
+use test_audit_io::answered::put_call;
+use test_audit_io::answered::put_counters;
+use test_audit_io::answered::put_state;
 
 fn put_opening(opening: Opening, placements: &[u64], singles: &[u64], multi: &[u64]) -> AuditState {
     let answer = opening.answer;

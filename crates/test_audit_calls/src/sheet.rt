@@ -1,9 +1,9 @@
 // Applies the sheet of a finished audit by a command that is written as bytes; `commands` says how.
 ghost use Prim.Native.Nat.{_≤_};
 ghost use lib.ListN.{length};
-use crate::answered::put_call;
-use crate::numbers::share;
 use audit_rules::sheet::Sheet;
+use test_audit_io::answered::put_call;
+use test_audit_io::numbers::share;
 use test_cases::targets::base_ends_in;
 use test_cases::targets::bases_in;
 use test_cases::targets::identifier_ends_in;

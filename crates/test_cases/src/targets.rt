@@ -8,8 +8,8 @@ ghost use Rattle.test_cases.specs.Cases.{ListsIn};
 use crate::reading::number;
 use crate::reading::part_end;
 
-// Where the lists start; where identifiers, their ends, bases, their ends and marks end, each where the next begins; how many
-// ends there are of identifiers and of bases.
+// Where the lists start; where identifiers, their ends, bases, their ends and marks end, each where the next begins; how
+// many ends there are of identifiers and of bases.
 pub struct Lists {
     pub start: usize,
     pub identifiers: usize,

@@ -1,11 +1,11 @@
--- `test_audit_calls::numbers::table_of` is safe and ends. The invariant: the count is at most 18, and the array keeps its length.
+-- `test_audit_io::numbers::table_of` is safe and ends. The invariant: the count is at most 18, and the array keeps its length.
 -- Assumes nothing.
 use mathlib.Core.Path.{_≡_}
 use borrow.Author.Needs.{needs}
 use Prim.Native.Nat.{_≤_, _-_}
 use lib.ListN.{length}
-use Rattle.test_audit_calls.proofs.numbers.table_of.Statement.{statement}
-use Rattle.test_audit_calls.proofs.numbers.table_of.Tie as tie
+use Rattle.test_audit_io.proofs.numbers.table_of.Statement.{statement}
+use Rattle.test_audit_io.proofs.numbers.table_of.Tie as tie
 
 abbrev Inv-loop : tie.InvT-loop
 Inv-loop s table₀ i₀ table i = (i ≤ 18) × (length table ≡ 18)

@@ -2,11 +2,11 @@
 ghost use Prim.Native.Nat.{_+_, _<_, _≤_};
 ghost use mathlib.Core.Path.{_≡_};
 ghost use lib.ListN.{length};
-use crate::fragment::FragmentHead;
 use audit_codes::mode_of;
 use audit_codes::role_of;
 use audit_rules::settings::AuditState;
 use audit_rules::settings::LastOrdinal;
+use audit_rules::settings::MateRole;
 use audit_rules::settings::Settings;
 use ledger::Ledger;
 use test_cases::reading::at_most;
@@ -14,6 +14,17 @@ use test_cases::reading::eight;
 use test_cases::reading::is_set;
 use test_cases::reading::number;
 use test_cases::reading::wide;
+
+// The numbers of a fragment, and of its two reads, that are no lists.
+pub struct FragmentHead {
+    pub plain: bool,
+    pub ordinal: u64,
+    pub count: usize,
+    pub first_role: MateRole,
+    pub first_present: bool,
+    pub second_role: MateRole,
+    pub second_present: bool,
+}
 
 // How much is lent of n numbers, by the byte at a place.
 pub fn share(s: &[u8], at: usize, n: usize) -> usize
