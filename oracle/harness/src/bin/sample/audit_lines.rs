@@ -1,4 +1,4 @@
-//! Whole audits as the commands that `audit_commands` reads, and the lines that the Rust's answers to them come to.
+//! Whole audits as the commands that `test_audit_calls` reads, and the lines that the Rust's answers to them come to.
 
 use crate::blocks::two;
 use harness::audits::{self, Case, Finished, Fragment, Read, Run, Stage, Stop, CANDIDATE_LIMIT};

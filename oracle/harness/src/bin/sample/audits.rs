@@ -1,4 +1,4 @@
-//! A sample of whole audits by the Rust, for the program `rust_audits`.
+//! A sample of whole audits by the Rust, for the program `test_audit_rust`.
 
 use crate::audit_inputs::audit;
 use crate::audit_kinds::{kind, note, Kind};

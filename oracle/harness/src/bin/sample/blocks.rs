@@ -2,7 +2,7 @@
 
 use std::{fs, path::Path};
 
-/// The program reads blocks of so many bytes, and no case goes over the end of one.
+/// No case goes over the end of a block of so many bytes; the program reads a whole number of blocks at a time.
 pub struct Blocks {
     size: usize,
     /// The fewest bytes that a case has.

@@ -1,5 +1,5 @@
-//! Writes samples of the Rust's answers as the input and the expected output of two programs of the gate, `rust_cases` and
-//! `rust_audits`: sample FOLDER FOLDER.
+//! Writes samples of the Rust's answers as the input and the expected output of two programs of the gate, `test_map_rust` and
+//! `test_audit_rust`: sample FOLDER FOLDER.
 
 mod audit_inputs;
 mod audit_kinds;

@@ -1,4 +1,4 @@
-//! A sample of reads that the Rust maps, for the program `rust_cases`.
+//! A sample of reads that the Rust maps, for the program `test_map_rust`.
 
 use crate::blocks::{self, two, Blocks};
 use harness::inputs::{catalogue, read, seed_length, Rng};
@@ -24,7 +24,7 @@ fn filler(n: usize) -> Vec<u8> {
     vec![0; n]
 }
 
-/// Numbers of two bytes, the low one first; `case_calls` says in which order.
+/// Numbers of two bytes, the low one first; `test_map_calls` says in which order.
 fn written(c: &Catalogue, q: usize, read: &[u8], limit: u64, entries: usize, postings: usize) -> Vec<u8> {
     let limits = [(limit % 65536) as usize, (limit / 65536) as usize];
     let lengths = [c.identifiers.len(), c.identifier_ends.len(), c.bases.len(), c.base_ends.len(), c.marks.len(), read.len()];

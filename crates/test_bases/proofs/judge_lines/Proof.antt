@@ -1,0 +1,60 @@
+-- `test_bases::judge_lines` is safe and ends. The invariant: the next line starts at most one past the end.
+-- Assumes nothing.
+use borrow.Author.Needs.{needs}
+use Prim.Native.Nat.{_≤_, _-_, _+_}
+use lib.ListN.{length}
+use Rattle.test_bases.proofs.judge_lines.Statement.{statement}
+use Rattle.test_bases.proofs.judge_lines.Tie as tie
+
+abbrev Inv-loop : tie.InvT-loop
+Inv-loop s at₀ at = at ≤ length s + 1
+
+abbrev μ-loop : tie.MeasureT-loop
+μ-loop s at₀ at = length s + 1 - at
+
+loop-holds : tie.Need-loop-holds Inv-loop μ-loop
+loop-holds c = search needs
+
+find-requires : tie.Need-find-requires Inv-loop μ-loop
+find-requires c κs = search needs
+
+sub-judge-line : tie.Need-sub-judge-line Inv-loop μ-loop
+sub-judge-line c = search needs
+
+part-judge-line-start : tie.Need-part-judge-line-start Inv-loop μ-loop
+part-judge-line-start c = search needs
+
+part-judge-line-end : tie.Need-part-judge-line-end Inv-loop μ-loop
+part-judge-line-end c = search needs
+
+judge-line-requires : tie.Need-judge-line-requires Inv-loop μ-loop
+judge-line-requires c κs = search needs
+
+add-at : tie.Need-add-at Inv-loop μ-loop
+add-at c = search needs
+
+loop-less : tie.Need-loop-less Inv-loop μ-loop
+loop-less c = search needs
+
+loop-again : tie.Need-loop-again Inv-loop μ-loop
+loop-again c = search needs
+
+returns : tie.Need-returns Inv-loop μ-loop
+returns c = search needs
+
+pub judge-lines-spec : {M : Type 1} → statement M
+judge-lines-spec =
+    tie.close
+    (tie.spec
+    Inv-loop
+    μ-loop
+    loop-holds
+    find-requires
+    sub-judge-line
+    part-judge-line-start
+    part-judge-line-end
+    judge-line-requires
+    add-at
+    loop-less
+    loop-again
+    returns)
