@@ -1,4 +1,4 @@
-/* The calls of libexports.a and, from "The audit" on, of libaudit_exports.a for C. A slice is a pointer and a number of elements; no slice that is written may overlap another.
+/* The calls of libexports.a and, from "The audit" on, of libaudit_exports.a for C. A slice is a pointer, which is not null, and a number of elements; no slice that is written may overlap another.
    Refusal numbers and answers: docs/REFERENCE.md, "Exports". */
 #ifndef JEKAUMEO_H
 #define JEKAUMEO_H
@@ -39,8 +39,8 @@ uint64_t jekaumeo_map_reads(uint64_t *rows, size_t rows_len, uint64_t *entries, 
                             JEKAUMEO_CATALOGUE, size_t q, const uint8_t *reads, size_t reads_len,
                             const size_t *read_ends, size_t read_ends_len, uint64_t limit);
 
-/* The audit. Its state is a buffer of JEKAUMEO_STATE numbers, the first of which names this layout; each call but the
-   opening reads it, and `fragment` and `fragments` write it. Counters: a number of each kind for each target. */
+/* The audit. Its state is a buffer of JEKAUMEO_STATE numbers, the first of which names this layout: the opening writes it,
+   `fragment` and `fragments` read and write it, `finish` reads it. Counters: a number of each kind for each target. */
 #define JEKAUMEO_STATE 32
 
 #define JEKAUMEO_COUNTERS \
@@ -52,7 +52,7 @@ uint64_t jekaumeo_map_reads(uint64_t *rows, size_t rows_len, uint64_t *entries, 
     const uint64_t *multi, size_t multi_len
 
 /* Two reads of a fragment: bases and qualities of each, its role (0 S, 1 R1, 2 R2) and whether it has qualities (0, 1);
-   the ordinal, and how many reads the fragment has. */
+   the ordinal, and how many reads the fragment has. Role and quality mark of the second are tested also where it has one. */
 #define JEKAUMEO_FRAGMENT \
     const uint8_t *first, size_t first_len, const uint8_t *first_qualities, size_t first_qualities_len, \
     const uint8_t *second, size_t second_len, const uint8_t *second_qualities, size_t second_qualities_len, \
