@@ -1,12 +1,15 @@
 -- What is owed of whole runs, each as one theorem about the audit as it is: seeds of 15 bases, qualities from 33 on.
 -- Assumes nothing.
 use mathlib.Core.Path.{_≡_, ap}
-use mathlib.Core.Bool.{true}
+use mathlib.Core.Bool.{true, false}
 use mathlib.Core.List.{List, map}
 use Prim.Native.Nat.{ℕ}
 use native.Mathlib.Omega.{arith}
 use Rattle.catalogue.specs.Catalogue.{Catalogue}
 use Rattle.ledger.specs.Booking.{Counters}
+use Rattle.catch_rules.specs.Job.{catch}
+use Rattle.catch_rules.specs.Feeding.{joined}
+use Rattle.jobs.specs.Jobs.{newJob}
 use Rattle.audit_rules.specs.declared.settings.Settings.{Settings}
 use Rattle.audit_rules.specs.Settings.{Held, auditSeed, auditOffset}
 use Rattle.audit_rules.specs.Opening.{IndexLent, columns, none, openingRefusal, opened, openingHeld}
@@ -17,6 +20,8 @@ use Rattle.agreement.specs.Meaning.{isRefused, RunMeans, Reconciled, Can
 use Rattle.agreement.specs.Twins.{TwinCall, indexedCall, plainCall, RefusedTogether, RunsAgree}
 use Rattle.agreement.specs.Made.{MadeRun, startOf, endOf, callsOf, answersOf, finishOf, RunMade, RunIsPaper}
 use Rattle.agreement.specs.Promised.{Opened, TwinRuns}
+use Rattle.agreement.specs.Turns.{Loop, Turns}
+use Rattle.agreement.proofs.Turns.{turns-catch}
 use Rattle.agreement.proofs.Made.{made-is-paper}
 use Rattle.agreement.proofs.Running.{spare-call}
 use Rattle.agreement.proofs.Sheets.{finish-accepted, never-apart, role-shown}
@@ -86,3 +91,7 @@ module _ (c : Catalogue) where
   pub demand-three-promised : (r r′ : MadeRun) (xs : List TwinCall) → RunMade auditSeed auditOffset c r → RunMade auditSeed auditOffset c r′ → Opened r → Opened r′ → TwinRuns r r′ xs
       → RefusedTogether (answersOf r) (answersOf r′) → RunsAgree (r .settings) c xs (answersOf r) (answersOf r′) (endOf r) (endOf r′) (finishOf r) (finishOf r′)
   demand-three-promised = made-agree auditSeed auditOffset c (omega arith)
+
+-- What `catch` writes: whatever pieces its input comes in, what its turns hand to `write` is what the definition gives for the whole.
+pub catch-promised : (l : Loop) (pieces : List (List ℕ)) (written : List ℕ) → l .job ≡ newJob → l .from ≡ l .end → l .at ≡ 0 → l .ended ≡ false → Turns l pieces written → written ≡ catch (joined pieces)
+catch-promised = turns-catch

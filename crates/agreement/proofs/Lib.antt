@@ -9,5 +9,6 @@ pub mod Fragments
 pub mod Agreeing
 pub mod Made
 pub mod Promised
+pub mod Turns
 pub mod Demands
 pub mod Examples

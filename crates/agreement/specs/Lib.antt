@@ -4,3 +4,4 @@ pub mod Twins
 pub mod Examples
 pub mod Made
 pub mod Promised
+pub mod Turns

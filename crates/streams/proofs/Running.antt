@@ -1,6 +1,6 @@
 -- Steps of a job, and what is at hand between them.
 -- Assumes nothing.
-use mathlib.Core.Path.{_≡_, refl}
+use mathlib.Core.Path.{_≡_, refl, subst}
 use mathlib.Core.Bool.{Bool, true, false}
 use mathlib.Core.List.{List}
 use Prim.Native.Nat.{ℕ, _+_, _*_, _-_, _≤_}
@@ -10,6 +10,7 @@ use lib.Seq.{length-take-le}
 use Rattle.lists.specs.Cut.{window}
 use Rattle.catalogue.specs.Catalogue.{maxTargets}
 use Rattle.stream.specs.Commands.{maxStreamTargets, maxStreamBases}
+use Rattle.fragment_stream.specs.Telling.{longestFragment}
 use Rattle.catch_rules.specs.Job.{Stage, streamEntries}
 use Rattle.supplying.specs.Supplying.{maxStreamNames}
 use Rattle.progress.specs.declared.Progress.{Progress}
@@ -59,6 +60,14 @@ told-within false before after bytes text (progress.Went n) from end h e t = ome
 told-within ended before after bytes text progress.Ended from end h e t = h
 told-within ended before after bytes text progress.More from end h e t = h
 
+-- it waits only for a command that is not whole
+told-few : (ended : Bool) (before after : Stage) (bytes text : List ℕ) (p : Progress) → Tells ended before bytes p text after → p ≡ progress.More → length bytes ≤ longestFragment
+told-few ended before after bytes text p t e = few ended (subst (λ x. Tells ended before bytes x text after) e t)
+  where
+    few : (b : Bool) → Tells b before bytes progress.More text after → length bytes ≤ longestFragment
+    few true u = absurd u
+    few false u = u .few
+
 module _ (j : Job) (b : Buffers) (entries buffer out : List ℕ) (from end at : ℕ) (runs : Runs j b entries buffer out from end at) where
   -- a step has room for its lines
   pub has-room : at + stepRoom ≤ length out
@@ -68,9 +77,12 @@ module _ (j : Job) (b : Buffers) (entries buffer out : List ℕ) (from end at : 
   pub steps : (ended : Bool) (out′ : List ℕ) (r : Advanced) (b′ : Buffers) → length out′ ≡ 131072
       → JobAdvances ended j b (window buffer from (end - from)) out at out′ r b′ → Steps buffer out′ (r .advance .progress) from end (r .advance .at)
   steps ended out′ r b′ e a =
+      let size = length-take-le (end - from) (drop from buffer) (simp length-drop (omega (arith, runs .hand .within))) in
       record {
         hand = runs .hand;
         went = told-within ended (stageOf j b) (stageOf (r .job) b′) (window buffer from (end - from)) (a .advances .text) (r .advance .progress) from end (runs .hand .ordered)
-            (length-take-le (end - from) (drop from buffer) (simp length-drop (omega (arith, runs .hand .within)))) (a .advances .told);
+            size (a .advances .told);
         written = omega (arith, a .advances .adds .room, runs .room);
+        room = λ f.
+            omega (arith, size, runs .input, told-few ended (stageOf j b) (stageOf (r .job) b′) (window buffer from (end - from)) (a .advances .text) (r .advance .progress) (a .advances .told) f);
       }

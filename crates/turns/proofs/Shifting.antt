@@ -7,6 +7,9 @@ use native.Mathlib.Numerals.{add-one}
 use native.Mathlib.Omega.{arith}
 use borrow.Rule.Slice.PartMut.{putMid, take-put}
 use lib.ListN.{length, take, drop, getD, set, length-set, length-drop}
+use lib.Dec.{eqb}
+use borrow.Author.Tests.{eqb-true, eq-eqb}
+use Rattle.lists.proofs.Cases.{same-test}
 use lib.Seq.{take-suc, take-suc-set, drop-set-lt, drop-drop, getD-drop}
 use Rattle.lists.specs.Cut.{window}
 use Rattle.turns.specs.Turns.{Kept}
@@ -49,3 +52,7 @@ moved-all {b₀} {from} {n} {b} {i} m h = let e : n ≡ i = omega (arith, m .wit
 -- they stay there where others are put behind them
 pub kept-behind : (b₀ : List ℕ) (from n : ℕ) (b : List ℕ) (a k : ℕ) (ys : List ℕ) → a ≡ n → Kept b₀ from b a → a ≤ length b → Kept b₀ from (putMid a k b ys) n
 kept-behind b₀ from n b a k ys e h fits = rw (← e) (take-put a k b ys fits ∙ h)
+
+-- none was read exactly where no more are at hand
+pub none-more : (n kept size : ℕ) → kept ≡ size → eqb n 0 ≡ eqb (kept + n) size
+none-more n kept size e = same-test (λ t. eq-eqb (kept + n) size (omega (arith, eqb-true n 0 t))) (λ t. eq-eqb n 0 (omega (arith, eqb-true (kept + n) size t)))

@@ -1,24 +1,27 @@
 // What is done between two steps of a job: bytes read behind those at hand, and lines written.
 ghost use mathlib.Core.Path.{_≡_};
-ghost use Prim.Native.Nat.{_-_, _≤_};
+ghost use Prim.Native.Nat.{_-_, _≤_, _<_, min};
+ghost use lib.ListN.{length};
 ghost use Rattle.promises.specs.Slice.{old, new};
 ghost use Rattle.turns.specs.Turns.{AtHand, Kept, Refilled, Steps, Turned};
 use progress::Progress;
 
-// How many bytes are at hand, and whether the input has ended or could not be read.
+// How many bytes were asked for, how many are at hand, and whether the input has ended or could not be read.
 pub struct Filled {
+    pub asked: usize,
     pub end: usize,
     pub ended: bool,
     pub failed: bool,
 }
 
-// What is at hand behind a step, and where the output ends; or all is done.
+// What is at hand behind a step, where the output ends, and how much of it was handed to `write`; or all is done.
 pub struct Turn {
     pub done: bool,
     pub from: usize,
     pub end: usize,
     pub ended: bool,
     pub at: usize,
+    pub wrote: usize,
 }
 
 // Moves the bytes from one place up to another to the front, and tells how many there are.
@@ -37,21 +40,29 @@ fn shift(buffer: &mut [u8], from: usize, end: usize) -> usize
 
 // The lesser of two numbers.
 fn least(a: usize, b: usize) -> usize
-    ensures { λ r. ⌜ (r ≤ a) × (r ≤ b) ⌝ }
+    ensures { λ r. ⌜ r ≡ min a b ⌝ }
 {
     if a < b { a } else { b }
 }
 
-// Moves the bytes at hand to the front, and reads up to `piece` bytes behind them.
+// A piece has one byte at least.
+fn some_piece(piece: usize) -> usize
+    ensures { λ r. ⌜ 1 ≤ r ⌝ }
+{
+    if piece == 0 { 1 } else { piece }
+}
+
+// Moves the bytes at hand to the front, and reads up to `piece` bytes behind them, or one where it is 0.
 fn refill(buffer: &mut [u8], from: usize, end: usize, input: i32, piece: usize) -> Filled
-    requires { ⌜ AtHand (now buffer) from end ⌝ }
-    ensures { λ r. ⌜ Refilled (old buffer) from end (new buffer) (r .end) ⌝ }
+    requires { ⌜ AtHand (now buffer) from end × (end - from < length (now buffer)) ⌝ }
+    ensures { λ r. ⌜ Refilled (old buffer) from end (new buffer) r ⌝ }
 {
     let kept = shift(buffer, from, end);
-    let upto = kept + least(buffer.len() - kept, piece);
+    let upto = kept + least(buffer.len() - kept, some_piece(piece));
     let got = libc::read(input, &mut buffer[kept..upto]);
     let n = io::count(got, &buffer[kept..upto]);
     Filled {
+        asked: upto - kept,
         end: kept + n,
         ended: n == 0,
         failed: got < 0,
@@ -73,7 +84,7 @@ pub fn follow(
     piece: usize,
 ) -> Turn
     requires { ⌜ Steps (now buffer) (now out) progress from end at ⌝ }
-    ensures { λ r. ⌜ Turned (old buffer) progress from end (new buffer) r ⌝ }
+    ensures { λ r. ⌜ Turned (old buffer) progress from end at ended (new buffer) r ⌝ }
 {
     match progress {
         Progress::Ended => {
@@ -84,6 +95,7 @@ pub fn follow(
                 end,
                 ended,
                 at: 0,
+                wrote: at,
             }
         }
         Progress::Went(n) => {
@@ -95,6 +107,7 @@ pub fn follow(
                     end,
                     ended,
                     at,
+                    wrote: 0,
                 };
             }
             Turn {
@@ -103,6 +116,7 @@ pub fn follow(
                 end,
                 ended,
                 at: 0,
+                wrote: at,
             }
         }
         Progress::More => {
@@ -113,6 +127,7 @@ pub fn follow(
                     end,
                     ended,
                     at: 0,
+                    wrote: at,
                 };
             }
             let filled = refill(buffer, from, end, input, piece);
@@ -122,6 +137,7 @@ pub fn follow(
                 end: filled.end,
                 ended: filled.ended,
                 at: 0,
+                wrote: at,
             }
         }
     }

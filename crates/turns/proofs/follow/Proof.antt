@@ -1,12 +1,12 @@
 -- `turns::follow` meets its contract, answer by answer: no step goes further than what is at hand, and what it left is there behind it.
 -- Assumes nothing.
-use mathlib.Core.Path.{sym, ap}
+use mathlib.Core.Path.{refl, sym}
 use Prim.Native.Nat.{_+_, _≤_}
 use native.Mathlib.Omega.{arith}
 use borrow.Author.Needs.{needs}
 use lib.Seq.{length-take-le}
-use Rattle.turns.specs.Turns.{handed, leftBy}
-use Rattle.turns.proofs.Turning.{went-within, turned-on, turned-off, turned-more}
+use Rattle.turns.specs.Turns.{kept-back, handed-on}
+use Rattle.turns.proofs.Turning.{went-within, turned-on, turned-last, turned-off, turned-more}
 use Rattle.turns.proofs.follow.Statement.{statement}
 use Rattle.turns.proofs.follow.Tie as tie
 
@@ -33,7 +33,7 @@ returns : tie.Need-returns
 returns c =
     let s = c .before .before .before .before .before .before in
     let a = s .args in
-    turned-on (a .buffer .now) (a .progress) (a .from) (a .end) (a .at) (a .ended) _ _ (c .before .before .progress .given .1) (s .pre .hand) (s .pre .went) (omega arith)
+    turned-on (a .buffer .now) (a .progress) (a .from) (a .end) (a .at) (a .ended) (s .pre .hand) _ (c .before .before .progress .given .1) (s .pre .went) _ _ _ (omega arith) (kept-back refl refl refl)
 
 slice-aggregate-write-all-2 : tie.Need-slice-aggregate-write-all-2
 slice-aggregate-write-all-2 c = sym (length-take-le _ _ (c .before .before .before .before .before .before .before .pre .written))
@@ -54,22 +54,22 @@ returns-2 : tie.Need-returns-2
 returns-2 c =
     let s = c .before .before .before .before .before .before .before in
     let a = s .args in
-    turned-off (a .buffer .now) (a .progress) (a .from) (a .end) (a .at) (a .ended) _ (s .pre .hand) (ap (λ x. leftBy x (handed (a .buffer .now) (a .from) (a .end))) (c .before .before .before .enum-told2 .given .1))
+    turned-off (a .buffer .now) (a .progress) (a .from) (a .end) (a .at) (a .ended) (s .pre .hand) (c .before .before .before .enum-told2 .given .1)
 
 refill-requires : tie.Need-refill-requires
-refill-requires c κs = search needs
+refill-requires c κs = (c .before .before .before .before .before .before .before .before .pre .hand, c .before .before .before .before .before .before .before .before .pre .room (c .before .before .before .before .enum-told2 .given .1))
 
 returns-3 : tie.Need-returns-3
 returns-3 c =
     let s = c .before .before .before .before .before .before in
     let a = s .args in
-    turned-off (a .buffer .now) (a .progress) (a .from) (a .end) (a .at) (a .ended) _ (s .pre .hand) (ap (λ x. leftBy x (handed (a .buffer .now) (a .from) (a .end))) (c .before .before .enum-told .given .1))
+    turned-last (a .buffer .now) (a .progress) (a .from) (a .end) (a .at) (a .ended) (s .pre .hand) (c .before .before .enum-told .given .1)
 
 returns-4 : tie.Need-returns-4
 returns-4 c =
     let s = c .before .before .before .before .before .before .before .before in
     let a = s .args in
-    turned-on (a .buffer .now) (a .progress) (a .from) (a .end) 0 (a .ended) _ _ (c .before .before .before .before .progress .given .1) (s .pre .hand) (s .pre .went) (omega arith)
+    turned-on (a .buffer .now) (a .progress) (a .from) (a .end) (a .at) (a .ended) (s .pre .hand) _ (c .before .before .before .before .progress .given .1) (s .pre .went) _ _ _ (omega arith) (handed-on refl refl)
 
 same-length : tie.Need-same-length
 same-length c = search needs
@@ -78,7 +78,7 @@ returns-5 : tie.Need-returns-5
 returns-5 c =
     let s = c .before .before .before .before .before .before .before .before .before .before .before in
     let a = s .args in
-    turned-more (a .buffer .now) (a .progress) (a .from) (a .end) (a .at) _ _ (s .pre .hand) (ap (λ x. leftBy x (handed (a .buffer .now) (a .from) (a .end))) (c .before .before .before .before .before .before .before .enum-told2 .given .1)) _ _ (omega (arith, c .before .before .refill .kept)) (c .before .before .refill .ensures)
+    turned-more (a .buffer .now) (a .progress) (a .from) (a .end) (a .at) (a .ended) (s .pre .hand) (c .before .before .before .before .before .before .before .enum-told2 .given .1) _ _ _ (omega (arith, c .before .before .refill .kept)) (c .before .before .refill .ensures)
 
 pub follow-spec : {M : Type 1} → statement M
 follow-spec =

@@ -3,7 +3,7 @@
 use Prim.Native.Nat.{_+_, _-_}
 use native.Mathlib.Omega.{arith}
 use borrow.Author.Needs.{needs}
-use Rattle.turns.proofs.Shifting.{kept-behind}
+use Rattle.turns.proofs.Shifting.{kept-behind, none-more}
 use Rattle.turns.proofs.refill.Statement.{statement}
 use Rattle.turns.proofs.refill.Tie as tie
 
@@ -12,6 +12,9 @@ shift-requires c κs = search needs
 
 sub-least : tie.Need-sub-least
 sub-least c = search needs
+
+some-piece-requires : tie.Need-some-piece-requires
+some-piece-requires c κs = search needs
 
 least-requires : tie.Need-least-requires
 least-requires c κs = search needs
@@ -43,20 +46,25 @@ part-count-end c = search needs
 count-requires : tie.Need-count-requires
 count-requires c κs = search needs
 
-add-t12 : tie.Need-add-t12
-add-t12 c = search needs
+sub-t12 : tie.Need-sub-t12
+sub-t12 c = search needs
+
+add-t15 : tie.Need-add-t15
+add-t15 c = search needs
 
 same-length : tie.Need-same-length
 same-length c = search needs
 
 returns : tie.Need-returns
 returns c =
-    let a = c .before .before .before .before .before .before .before .before .before .before .before .before .before .args in
-    let s = c .before .before .before .before .before .before .before .before .before .before .shift in
+    let a = c .before .before .before .before .before .before .before .before .before .before .before .before .before .before .args in
+    let s = c .before .before .before .before .before .before .before .before .before .before .before .shift in
     record {
       kept = kept-behind (a .buffer .now) (a .from) _ _ _ (s .result + c .before .before .before .before .before .before .before .least .result - s .result) (c .before .before .before .before .before .read .last .1 .0) (s .ensures .0) (s .ensures .1) (omega arith);
+      asked = omega arith;
       more = omega arith;
       fits = search needs;
+      ended = none-more _ _ _ (s .ensures .0);
     }
 
 pub refill-spec : {M : Type 1} → statement M
@@ -65,6 +73,7 @@ refill-spec =
     (tie.spec
     shift-requires
     sub-least
+    some-piece-requires
     least-requires
     add-upto
     sub-read
@@ -75,6 +84,7 @@ refill-spec =
     part-count-start
     part-count-end
     count-requires
-    add-t12
+    sub-t12
+    add-t15
     same-length
     returns)
