@@ -13,7 +13,7 @@ use Rattle.lists.specs.Member.{_∈_}
 use Rattle.lists.proofs.Cases.{by-test}
 use Rattle.lists.proofs.Every.{every-∈, ∈-every}
 use Rattle.lists.proofs.Same.{same-true, true-same}
-use Rattle.promises.specs.Refusal.{unless, _orElse_, outcome}
+use Rattle.promises.specs.Refusal.{unless, _orElse_, outcome, isRefused}
 use Rattle.promises.proofs.Refusing.{none-first, none-second, passed}
 use Rattle.bases.specs.Eligibility.{eligibility}
 use Rattle.catalogue.specs.Catalogue.{Catalogue}
@@ -29,10 +29,10 @@ use Rattle.audit_rules.specs.declared.settings.Settings.{Settings}
 use Rattle.audit_rules.specs.Settings.{Held}
 use Rattle.audit_rules.specs.Opening.{openingRefusal}
 use Rattle.audit_rules.specs.Observing.{MateRead, verdictRefusal, mateRefusal, mateRoom}
-use Rattle.audit_rules.specs.Fragment.{inOrder, rolesRight, firstOf, shareOf, testedRefusal, fragmentRefusal, fragmentBooks}
+use Rattle.audit_rules.specs.Fragment.{inOrder, rolesRight, firstRefusal, shareOf, testedRefusal, fragmentRefusal, fragmentBooks}
 use Rattle.audit_rules.specs.Run.{Call, answerTo}
 use Rattle.audit_rules.proofs.Checking.{fragment-checked}
-use Rattle.agreement.specs.Meaning.{isRefused, Roomy, Acceptable}
+use Rattle.agreement.specs.Meaning.{Roomy, Acceptable}
 
 -- ---- chains
 
@@ -46,13 +46,13 @@ both-pass m n e f = rw e f
 
 module _ {A : Type 0} (check : A → ℕ) where
   -- the checks of all pass, each by itself
-  all-pass : (xs : List A) → ((x : A) → x ∈ xs → check x ≡ 0) → firstOf check xs ≡ 0
+  all-pass : (xs : List A) → ((x : A) → x ∈ xs → check x ≡ 0) → firstRefusal check xs ≡ 0
   all-pass [] h = refl
-  all-pass (x ∷ xs) h = both-pass (check x) (firstOf check xs) (h x (inl refl)) (all-pass xs (λ y m. h y (inr m)))
+  all-pass (x ∷ xs) h = both-pass (check x) (firstRefusal check xs) (h x (inl refl)) (all-pass xs (λ y m. h y (inr m)))
 
-  each-passes : (xs : List A) → firstOf check xs ≡ 0 → (x : A) → x ∈ xs → check x ≡ 0
-  each-passes (y ∷ ys) e x (inl m) = rw m (none-first (check y) (firstOf check ys) e)
-  each-passes (y ∷ ys) e x (inr m) = each-passes ys (none-second (check y) (firstOf check ys) e) x m
+  each-passes : (xs : List A) → firstRefusal check xs ≡ 0 → (x : A) → x ∈ xs → check x ≡ 0
+  each-passes (y ∷ ys) e x (inl m) = rw m (none-first (check y) (firstRefusal check ys) e)
+  each-passes (y ∷ ys) e x (inr m) = each-passes ys (none-second (check y) (firstRefusal check ys) e) x m
 
 -- an outcome is accepted exactly where there is no refusal
 pub not-refused : {A : Type 0} (n : ℕ) (a : A) → (n ≡ 0) ↔ (isRefused (outcome n a) ≡ false)
@@ -116,9 +116,9 @@ module _ (q offset : ℕ) (c : Catalogue) (h : Held) (x : Call) where
       both-pass (openingRefusal q offset c (x .lent) s (h .counters)) _ (a .opening)
       (both-pass (unless (inOrder (h .state .last) (x .fragment .ordinal)) 12) _ (unrefused _ 12 (order-passes (h .state .last) (x .fragment .ordinal) (a .order)))
       (both-pass (unless (rolesRight (s .mode) (x .fragment .reads)) 13) _ (unrefused _ 13 (true-same _ _ (a .roles)))
-      (both-pass (firstOf (mateRefusal offset s) (x .fragment .reads)) _
+      (both-pass (firstRefusal (mateRefusal offset s) (x .fragment .reads)) _
       (all-pass (mateRefusal offset s) (x .fragment .reads) (λ r m. read-passes offset s r (a .lengths r m) (λ t. a .verdicts t r m)))
-      (both-pass (firstOf (mateRoom offset s (mappedSequences c) (shareOf (s .mode) (entryCount (x .entries)))) (x .fragment .reads)) _
+      (both-pass (firstRefusal (mateRoom offset s (mappedSequences c) (shareOf (s .mode) (entryCount (x .entries)))) (x .fragment .reads)) _
       (all-pass (mateRoom offset s (mappedSequences c) (shareOf (s .mode) (entryCount (x .entries)))) (x .fragment .reads) (λ r m. room-passes _ (s .limit) _ (a .rooms r m)))
       (unrefused _ 17 (counts-pass (fragmentBooks q offset c (x .lent) h (x .fragment)) (a .counts)))))))
 

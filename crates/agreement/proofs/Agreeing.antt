@@ -5,7 +5,7 @@ use mathlib.Core.Bool.{true≢false}
 use mathlib.Core.List.{List, [], _∷_, map, map-map, head-eq-of-cons-eq, tail-eq-of-cons-eq}
 use Prim.Native.Nat.{ℕ, zero, suc, _*_, _≤_}
 use native.Mathlib.Nat.{mul-zero}
-use Rattle.promises.specs.Refusal.{accepted, outcome}
+use Rattle.promises.specs.Refusal.{accepted, outcome, ifPassed, isRefused}
 use Rattle.promises.proofs.Refusing.{outcome-accepted}
 use Rattle.catalogue.specs.Catalogue.{Catalogue, Valid, suppliedPlaces}
 use Rattle.index.specs.Index.{mappedSequences}
@@ -15,16 +15,15 @@ use Rattle.ledger.specs.Booking.{Books}
 use Rattle.audit_rules.specs.declared.settings.Settings.{Settings}
 use Rattle.audit_rules.specs.declared.settings.LastOrdinal.the-variants as ordinals
 use Rattle.audit_rules.specs.declared.sheet.Sheet.{Sheet}
-use Rattle.audit_rules.specs.Settings.{Held, booksOf}
+use Rattle.audit_rules.specs.Settings.{Held, heldBooks}
 use Rattle.audit_rules.specs.Opening.{IndexLent, columns, none, started}
 use Rattle.audit_rules.specs.Observing.{mateRow}
-use Rattle.audit_rules.specs.Fragment.{Fragment, shareOf, entriesLeft, fragmentRefusal, fragmentAccepted, heldAfter, fragmentWritten}
+use Rattle.audit_rules.specs.Fragment.{Fragment, shareOf, entriesLeft, fragmentRefusal, fragmentAccepted, fragmentWritten}
 use Rattle.audit_rules.specs.Sheet.{sheetOf, targetsShown, finishRefusal, finishAnswer}
 use Rattle.audit_rules.specs.Run.{Answer, answerTo, next, answers, after}
 use Rattle.audit_rules.proofs.Checking.{fragment-checked}
 use Rattle.audit_rules.proofs.Parts.{reads-in-parts}
 use Rattle.lists.specs.Each.{Each, no-more, both}
-use Rattle.agreement.specs.Meaning.{isRefused}
 use Rattle.agreement.specs.Twins.{TwinRead, TwinCall, plainMate, indexedCall, plainCall, TwinRow, ReadsAgree, RowsAgree, TwinAnswer, refusals, RefusedTogether, RunsAgree}
 use Rattle.agreement.proofs.Fragments.{all-booked, twinRow, all-agree}
 
@@ -69,7 +68,7 @@ module _ (q offset : ℕ) (some : 1 ≤ q) (c : Catalogue) (right : Valid c) whe
           let a = fragment-checked q offset c lent h fragment (entryCount (x .entries)) z .own in
           let b = fragment-checked q offset c none h plainFragment (entryCount (x .plainEntries)) z′ .own in
           ap (λ (k : Books). record { state = record { settings = s; last = ordinals.Accepted (x .ordinal); ledger = k .ledger }; counters = k .counters })
-          (all-booked q offset some c right s (x .reads) (a .reads) (b .reads) (booksOf h))
+          (all-booked q offset some c right s (x .reads) (a .reads) (b .reads) (heldBooks h))
 
   -- ---- calls one after the other
 
@@ -114,10 +113,10 @@ module _ (q offset : ℕ) (some : 1 ≤ q) (c : Catalogue) (right : Valid c) whe
       pair k k′ = record { first = first k; second = second k′ }
 
       held : ℕ → Held
-      held k = heldAfter k (fragmentAccepted q offset c (lent h x) h (fragment h x)) h
+      held k = ifPassed k (fragmentAccepted q offset c (lent h x) h (fragment h x)) h
 
       held′ : ℕ → Held
-      held′ k = heldAfter k (fragmentAccepted q offset c none h (plainFragment h x)) h
+      held′ k = ifPassed k (fragmentAccepted q offset c none h (plainFragment h x)) h
 
       join : (y y′ : Held) → y ≡ y′ → ((g : Held) → Together xs g g → CallsEnd (g .state .settings) (suc i) xs g g) → Together xs y y′ → CallsEnd (y .state .settings) (suc i) xs y y′
       join y y′ e ih t = subst (λ (g : Held). CallsEnd (y .state .settings) (suc i) xs y g) e (ih y (t ∙ ap (λ (g : Held). refusals (answers q offset c g (map plainCall xs))) (sym e)))

@@ -8,6 +8,7 @@ use Prim.Native.Nat.{ℕ, zero, suc, _<_}
 use native.Mathlib.Omega.{arith}
 use lib.ListN.{length, length-map}
 use lib.Dec.{ltb}
+use Rattle.promises.specs.Refusal.{ifPassed}
 use Rattle.lists.specs.Member.{_∈_}
 use Rattle.lists.proofs.Cases.{by-test}
 use Rattle.lists.proofs.Member.{map-∈, append-∈}
@@ -26,10 +27,10 @@ use Rattle.audit_rules.specs.declared.settings.Settings.{Settings}
 use Rattle.audit_rules.specs.Settings.{Held, statesShown}
 use Rattle.audit_rules.specs.Opening.{wayOf}
 use Rattle.audit_rules.specs.Observing.{MateRead, isEligible, noWork, mateBooked}
-use Rattle.audit_rules.specs.Fragment.{fragmentRefusal, fragmentBooked, fragmentAccepted, heldAfter}
+use Rattle.audit_rules.specs.Fragment.{fragmentRefusal, fragmentBooked, fragmentAccepted}
 use Rattle.audit_rules.proofs.Booked.{few-roles}
 use Rattle.agreement.proofs.Turned.{listed-∈}
-use Rattle.audit_rules.specs.Run.{Call, ifAccepted, next, books, after, history}
+use Rattle.audit_rules.specs.Run.{Call, next, books, after, history}
 
 -- ---- one read
 
@@ -81,7 +82,7 @@ module _ (q offset : ℕ) (c : Catalogue) where
   pub settings-stay : (h : Held) (x : Call) → next q offset c h x .state .settings ≡ h .state .settings
   settings-stay h x = go (fragmentRefusal q offset c (x .lent) h (x .fragment) (entryCount (x .entries)))
     where
-      go : (n : ℕ) → heldAfter n (fragmentAccepted q offset c (x .lent) h (x .fragment)) h .state .settings ≡ h .state .settings
+      go : (n : ℕ) → ifPassed n (fragmentAccepted q offset c (x .lent) h (x .fragment)) h .state .settings ≡ h .state .settings
       go zero = refl
       go (suc n) = refl
 
@@ -95,7 +96,7 @@ module _ (q offset : ℕ) (c : Catalogue) where
   history-all s P all h e (x ∷ xs) b m =
       split (history-all s P all (next q offset c h x) (settings-stay h x ∙ e) xs b) (append-∈ b (books q offset c h x) (history q offset c (next q offset c h x) xs) m)
     where
-      here : (n : ℕ) → b ∈ ifAccepted n (fragmentBooked q offset c (x .lent) h (x .fragment)) → P b
+      here : (n : ℕ) → b ∈ ifPassed n (fragmentBooked q offset c (x .lent) h (x .fragment)) [] → P b
       here zero i =
           let r = map-∈ (mateBooked offset (h .state .settings) (mappedSequences c) (wayOf q (x .lent))) b (x .fragment .reads) i in
           subst P (sym (r .2)) (subst (λ (u : Settings). P (mateBooked offset u (mappedSequences c) (wayOf q (x .lent)) (r .0))) (sym e) (all (wayOf q (x .lent)) (r .0)))

@@ -5,6 +5,7 @@ use mathlib.Core.Bool.{true, false}
 use mathlib.Core.List.{List, map}
 use Prim.Native.Nat.{ℕ}
 use native.Mathlib.Omega.{arith}
+use Rattle.promises.specs.Refusal.{ifPassed, isRefused}
 use Rattle.catalogue.specs.Catalogue.{Catalogue}
 use Rattle.ledger.specs.Booking.{Counters}
 use Rattle.catch_rules.specs.Job.{catch}
@@ -12,13 +13,13 @@ use Rattle.catch_rules.specs.Feeding.{joined}
 use Rattle.jobs.specs.Jobs.{newJob}
 use Rattle.audit_rules.specs.declared.settings.Settings.{Settings}
 use Rattle.audit_rules.specs.Settings.{Held, auditSeed, auditOffset}
-use Rattle.audit_rules.specs.Opening.{IndexLent, columns, none, openingRefusal, opened, openingHeld}
+use Rattle.audit_rules.specs.Opening.{IndexLent, columns, none, openingRefusal, openingHeld, unopened, started}
 use Rattle.audit_rules.specs.Sheet.{finishAnswer}
 use Rattle.audit_rules.specs.Run.{Call, answerTo, answers, after}
 use Rattle.audit_rules.proofs.Opening.{opening-passed}
-use Rattle.agreement.specs.Meaning.{isRefused, RunMeans, Reconciled, CanBeLeftOut}
+use Rattle.agreement.specs.Meaning.{RunMeans, Reconciled, CanBeLeftOut}
 use Rattle.agreement.specs.Twins.{TwinCall, indexedCall, plainCall, RefusedTogether, RunsAgree}
-use Rattle.agreement.specs.Made.{MadeRun, startOf, endOf, callsOf, answersOf, finishOf, RunMade, RunIsPaper}
+use Rattle.agreement.specs.Made.{MadeRun, startOf, endOf, madeCalls, answersOf, finishOf, RunMade, RunIsPaper}
 use Rattle.agreement.specs.Promised.{Opened, TwinRuns}
 use Rattle.agreement.specs.Turns.{Loop, Turns}
 use Rattle.agreement.proofs.Turns.{turns-catch}
@@ -68,7 +69,7 @@ pub demand-three : (c : Catalogue) (s : Settings) (k k′ : Counters) (ks rs os 
     (finishAnswer auditSeed auditOffset c lent (after auditSeed auditOffset c (openingHeld auditSeed auditOffset c (columns ks rs os) s k) (map indexedCall xs)))
     (finishAnswer auditSeed auditOffset c none (after auditSeed auditOffset c (openingHeld auditSeed auditOffset c none s k′) (map plainCall xs)))
 demand-three c s k k′ ks rs os z z′ =
-    runs-agree auditSeed auditOffset (omega arith) c (opening-passed auditSeed auditOffset c none s k′ z′ .catalogue) s _ _ (ap (λ n. opened n c s k) z) (ap (λ n. opened n c s k′) z′)
+    runs-agree auditSeed auditOffset (omega arith) c (opening-passed auditSeed auditOffset c none s k′ z′ .catalogue) s _ _ (ap (λ n. ifPassed n (started c s) (unopened k)) z) (ap (λ n. ifPassed n (started c s) (unopened k′)) z′)
 
 -- No upload can spoil a run: a refused call can be left out of a list or put in without a change in what the others answer.
 pub nothing-spoils : (c : Catalogue) (h : Held) (xs : List Call) (x : Call) (ys : List Call)
@@ -84,7 +85,7 @@ module _ (c : Catalogue) where
 
   -- Demand 2 of what the calls answer.
   pub demand-two-promised : (r : MadeRun) → RunMade auditSeed auditOffset c r → Opened r
-      → RunMeans auditSeed auditOffset c (r .settings) (startOf r) (callsOf r) (answersOf r) (endOf r) (finishOf r)
+      → RunMeans auditSeed auditOffset c (r .settings) (startOf r) (madeCalls r) (answersOf r) (endOf r) (finishOf r)
   demand-two-promised = made-means auditSeed auditOffset c
 
   -- Demand 3 of what the calls of both audits answer.

@@ -24,7 +24,7 @@ use Rattle.indexed_mapper.proofs.Matching.{as-many}
 use Rattle.ledger.specs.Booking.{Booked, Books, targetsOf, ledgerWith, countersWith, bookedOne, bookedAll}
 use Rattle.audit_rules.specs.declared.settings.Settings.{Settings}
 use Rattle.audit_rules.specs.Observing.{MateRead, mateRefusal, mateListed, mateEntries, mateRow, mateBooked}
-use Rattle.audit_rules.specs.Fragment.{firstOf}
+use Rattle.audit_rules.specs.Fragment.{firstRefusal}
 use Rattle.audit_rules.proofs.Parts.{InParts}
 use Rattle.agreement.specs.Placements.{placementsIn, placementsIf, turnedPlacements}
 use Rattle.lists.specs.Each.{Each, no-more, both}
@@ -106,13 +106,13 @@ module _ (q offset : ℕ) (some : 1 ≤ q) (c : Catalogue) (valid : Valid c) (s 
 
   -- none of the reads is refused, and none is as the second audit gets it
   abbrev Unrefused : List MateRead → Type 0
-  Unrefused rs = firstOf (mateRefusal offset s) rs ≡ 0
+  Unrefused rs = firstRefusal (mateRefusal offset s) rs ≡ 0
 
   first-unrefused : (r : MateRead) (rs : List MateRead) → Unrefused (r ∷ rs) → mateRefusal offset s r ≡ 0
-  first-unrefused r rs z = none-first (mateRefusal offset s r) (firstOf (mateRefusal offset s) rs) z
+  first-unrefused r rs z = none-first (mateRefusal offset s r) (firstRefusal (mateRefusal offset s) rs) z
 
   rest-unrefused : (r : MateRead) (rs : List MateRead) → Unrefused (r ∷ rs) → Unrefused rs
-  rest-unrefused r rs z = none-second (mateRefusal offset s r) (firstOf (mateRefusal offset s) rs) z
+  rest-unrefused r rs z = none-second (mateRefusal offset s r) (firstRefusal (mateRefusal offset s) rs) z
 
   pub all-booked : (ts : List TwinRead) → Unrefused (mates ts) → Unrefused (map plainMate ts) → (books : Books)
       → bookedAll ranked (map (mateBooked offset s ss (byIndex q)) (mates ts)) books ≡ bookedAll ranked (map (mateBooked offset s ss plain) (map plainMate ts)) books

@@ -5,7 +5,7 @@ use mathlib.Core.List.{List, [], _∷_, map, map-map}
 use Prim.Native.Nat.{ℕ, zero, suc, _*_}
 use native.Mathlib.Nat.{mul-zero, mul-suc}
 use Rattle.lists.specs.Cut.{window}
-use Rattle.promises.specs.Refusal.{refused, accepted}
+use Rattle.promises.specs.Refusal.{refused, accepted, ifPassed}
 use Rattle.promises.proofs.Refusing.{outcome-accepted, outcome-number}
 use Rattle.catalogue.specs.Catalogue.{Catalogue, Valid, suppliedPlaces}
 use Rattle.seeds.specs.Seeds.{placed}
@@ -19,7 +19,7 @@ use Rattle.audit_rules.specs.Settings.{Held}
 use Rattle.audit_rules.specs.Opening.{wayOf}
 use Rattle.audit_rules.specs.Observing.{MateRead, mateRow, mateEntries, mateBooked}
 use Rattle.audit_rules.specs.Fragment.{shareOf, entriesLeft, fragmentRefusal, fragmentBooked, fragmentWritten}
-use Rattle.audit_rules.specs.Run.{Call, ifAccepted, answerTo, next, books, answers}
+use Rattle.audit_rules.specs.Run.{Call, answerTo, next, books, answers}
 use Rattle.audit_rules.proofs.Opening.{opening-passed}
 use Rattle.audit_rules.proofs.Checking.{Checked, fragment-checked}
 use Rattle.audit_rules.proofs.Parts.{InParts, reads-in-parts}
@@ -81,7 +81,7 @@ module _ (q offset : ℕ) (c : Catalogue) (h : Held) (x : Call) (rows : List Row
 
   -- what is booked of an accepted one
   books-are : fragmentBooked q offset c (x .lent) h (x .fragment) ≡ books q offset c h x
-  books-are = ap (λ n. ifAccepted n (fragmentBooked q offset c (x .lent) h (x .fragment))) (sym (answered .0))
+  books-are = ap (λ n. ifPassed n (fragmentBooked q offset c (x .lent) h (x .fragment)) []) (sym (answered .0))
 
   fragment-means : ReadsMean offset s c width (x .fragment .reads) rows (books q offset c h x) (x .entries) (answerTo q offset c h x .entries)
   fragment-means =
@@ -98,7 +98,7 @@ refused-books q offset c h x n told =
     let e = outcome-number (fragmentRefusal q offset c (x .lent) h (x .fragment) (entryCount (x .entries))) n _ told in
     rw (e .0) (go n (e .1))
   where
-    go : (m : ℕ) → (m ≡ 0 → ⊥) → ifAccepted m (fragmentBooked q offset c (x .lent) h (x .fragment)) ≡ []
+    go : (m : ℕ) → (m ≡ 0 → ⊥) → ifPassed m (fragmentBooked q offset c (x .lent) h (x .fragment)) [] ≡ []
     go zero ne = absurd (ne refl)
     go (suc m) ne = refl
 

@@ -3,19 +3,19 @@
 use mathlib.Core.Path.{_≡_, sym, ap, ap₂, subst, _∙_}
 use mathlib.Core.List.{List, map}
 use Prim.Native.Nat.{ℕ, _≤_}
-use Rattle.promises.specs.Refusal.{Outcome}
+use Rattle.promises.specs.Refusal.{Outcome, ifPassed}
 use Rattle.promises.proofs.Refusing.{outcome-accepted}
 use Rattle.catalogue.specs.Catalogue.{Catalogue}
 use Rattle.audit_rules.specs.declared.settings.Settings.{Settings}
 use Rattle.audit_rules.specs.declared.sheet.Sheet.{Sheet}
 use Rattle.audit_rules.specs.Settings.{Held}
-use Rattle.audit_rules.specs.Opening.{openingRefusal, openingHeld, started, opened}
+use Rattle.audit_rules.specs.Opening.{openingRefusal, openingHeld, started, unopened}
 use Rattle.audit_rules.specs.Sheet.{finishAnswer}
 use Rattle.audit_rules.specs.Run.{Call, Answer, answers, after}
 use Rattle.audit_rules.proofs.Opening.{opening-passed}
 use Rattle.agreement.specs.Meaning.{RunMeans}
 use Rattle.agreement.specs.Twins.{TwinCall, indexedCall, plainCall, refusals, RefusedTogether, RunsAgree}
-use Rattle.agreement.specs.Made.{MadeRun, startOf, endOf, callsOf, answersOf, finishOf, RunMade}
+use Rattle.agreement.specs.Made.{MadeRun, startOf, endOf, madeCalls, answersOf, finishOf, RunMade}
 use Rattle.agreement.specs.Promised.{Opened, TwinRuns}
 use Rattle.agreement.proofs.Made.{made-is-paper}
 use Rattle.agreement.proofs.Sheets.{run-counts, sheet-means}
@@ -40,17 +40,17 @@ module _ (q offset : ℕ) (c : Catalogue) where
     begun = outcome-accepted (openingRefusal q offset c (r .lent) (r .settings) (r .before)) tt tt (sym (made-is-paper q offset c r made .opened) ∙ begins) .0
 
     start-is : startOf r ≡ started c (r .settings)
-    start-is = made-is-paper q offset c r made .start ∙ ap (λ n. opened n c (r .settings) (r .before)) begun
+    start-is = made-is-paper q offset c r made .start ∙ ap (λ n. ifPassed n (started c (r .settings)) (unopened (r .before))) begun
 
-    pub made-means : RunMeans q offset c (r .settings) (startOf r) (callsOf r) (answersOf r) (endOf r) (finishOf r)
+    pub made-means : RunMeans q offset c (r .settings) (startOf r) (madeCalls r) (answersOf r) (endOf r) (finishOf r)
     made-means =
         let p = made-is-paper q offset c r made in
-        let d : RunMeans q offset c (r .settings) (startOf r) (callsOf r) (answers q offset c (startOf r) (callsOf r)) (after q offset c (startOf r) (callsOf r)) (finishAnswer q offset c (r .lentAtEnd) (after q offset c (startOf r) (callsOf r))) =
-        subst (λ (h : Held). RunMeans q offset c (r .settings) h (callsOf r) (answers q offset c h (callsOf r)) (after q offset c h (callsOf r)) (finishAnswer q offset c (r .lentAtEnd) (after q offset c h (callsOf r))))
-        (sym (p .start)) (run-means (r .lent) (r .settings) (r .before) begun (callsOf r) (r .lentAtEnd)) in
-        let e : RunMeans q offset c (r .settings) (startOf r) (callsOf r) (answers q offset c (startOf r) (callsOf r)) (endOf r) (finishAnswer q offset c (r .lentAtEnd) (endOf r)) =
-        subst (λ (h : Held). RunMeans q offset c (r .settings) (startOf r) (callsOf r) (answers q offset c (startOf r) (callsOf r)) h (finishAnswer q offset c (r .lentAtEnd) h)) (sym (p .held)) d in
-        moved (r .settings) (startOf r) (callsOf r) (endOf r) (p .answered) (p .finished) e
+        let d : RunMeans q offset c (r .settings) (startOf r) (madeCalls r) (answers q offset c (startOf r) (madeCalls r)) (after q offset c (startOf r) (madeCalls r)) (finishAnswer q offset c (r .lentAtEnd) (after q offset c (startOf r) (madeCalls r))) =
+        subst (λ (h : Held). RunMeans q offset c (r .settings) h (madeCalls r) (answers q offset c h (madeCalls r)) (after q offset c h (madeCalls r)) (finishAnswer q offset c (r .lentAtEnd) (after q offset c h (madeCalls r))))
+        (sym (p .start)) (run-means (r .lent) (r .settings) (r .before) begun (madeCalls r) (r .lentAtEnd)) in
+        let e : RunMeans q offset c (r .settings) (startOf r) (madeCalls r) (answers q offset c (startOf r) (madeCalls r)) (endOf r) (finishAnswer q offset c (r .lentAtEnd) (endOf r)) =
+        subst (λ (h : Held). RunMeans q offset c (r .settings) (startOf r) (madeCalls r) (answers q offset c (startOf r) (madeCalls r)) h (finishAnswer q offset c (r .lentAtEnd) h)) (sym (p .held)) d in
+        moved (r .settings) (startOf r) (madeCalls r) (endOf r) (p .answered) (p .finished) e
       where
         moved : (s : Settings) (h : Held) (xs : List Call) (end : Held) {a a′ : List Answer} {o o′ : Outcome Sheet} → a ≡ a′ → o ≡ o′ → RunMeans q offset c s h xs a′ end o′ → RunMeans q offset c s h xs a end o
         moved s h xs end e f d = rw (e, f) d

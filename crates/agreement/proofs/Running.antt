@@ -4,18 +4,19 @@ use mathlib.Core.Path.{_≡_, refl, sym, ap, _∙_}
 use mathlib.Core.Bool.{true}
 use mathlib.Core.List.{List, [], _∷_, _++_}
 use Prim.Native.Nat.{ℕ, zero, suc}
+use Rattle.promises.specs.Refusal.{ifPassed, isRefused}
 use Rattle.catalogue.specs.Catalogue.{Catalogue, suppliedPlaces}
 use Rattle.scan.specs.Entries.{entryCount}
 use Rattle.ledger.specs.Booking.{bookedAll, countable}
 use Rattle.ledger.proofs.Booking.{booked-append}
-use Rattle.audit_rules.specs.Settings.{Held, booksOf}
-use Rattle.audit_rules.specs.Fragment.{fragmentRefusal, fragmentBooked, fragmentAccepted, heldAfter}
+use Rattle.audit_rules.specs.Settings.{Held, heldBooks}
+use Rattle.audit_rules.specs.Fragment.{fragmentRefusal, fragmentBooked, fragmentAccepted}
 use Rattle.audit_rules.proofs.Checking.{fragment-checked}
 use Rattle.audit_rules.proofs.Booked.{refused-holds}
-use Rattle.agreement.specs.Meaning.{isRefused, CanBeLeftOut}
+use Rattle.agreement.specs.Meaning.{CanBeLeftOut}
 use Rattle.agreement.proofs.Accepting.{not-refused}
 use Rattle.lists.proofs.Cases.{clash}
-use Rattle.audit_rules.specs.Run.{Call, Answer, ifAccepted, answerTo, next, books, answers, after, history}
+use Rattle.audit_rules.specs.Run.{Call, Answer, answerTo, next, books, answers, after, history}
 
 -- ---- a fragment's own refusal
 
@@ -28,17 +29,17 @@ module _ (q offset : ℕ) (c : Catalogue) (h : Held) (x : Call) where
   refused-leaves ne = refused-holds refusal ne (fragmentAccepted q offset c (x .lent) h (x .fragment)) h
 
   -- the books after a call are those before it with what it books
-  next-books : booksOf (next q offset c h x) ≡ bookedAll (suppliedPlaces c) (books q offset c h x) (booksOf h)
+  next-books : heldBooks (next q offset c h x) ≡ bookedAll (suppliedPlaces c) (books q offset c h x) (heldBooks h)
   next-books = go refusal
     where
-      go : (n : ℕ) → booksOf (heldAfter n (fragmentAccepted q offset c (x .lent) h (x .fragment)) h) ≡ bookedAll (suppliedPlaces c) (ifAccepted n (fragmentBooked q offset c (x .lent) h (x .fragment))) (booksOf h)
+      go : (n : ℕ) → heldBooks (ifPassed n (fragmentAccepted q offset c (x .lent) h (x .fragment)) h) ≡ bookedAll (suppliedPlaces c) (ifPassed n (fragmentBooked q offset c (x .lent) h (x .fragment)) []) (heldBooks h)
       go zero = refl
       go (suc n) = refl
 
-  next-countable : countable (booksOf h) ≡ true → countable (booksOf (next q offset c h x)) ≡ true
+  next-countable : countable (heldBooks h) ≡ true → countable (heldBooks (next q offset c h x)) ≡ true
   next-countable = go refusal refl
     where
-      go : (n : ℕ) → refusal ≡ n → countable (booksOf h) ≡ true → countable (booksOf (heldAfter n (fragmentAccepted q offset c (x .lent) h (x .fragment)) h)) ≡ true
+      go : (n : ℕ) → refusal ≡ n → countable (heldBooks h) ≡ true → countable (heldBooks (ifPassed n (fragmentAccepted q offset c (x .lent) h (x .fragment)) h)) ≡ true
       go zero e t = fragment-checked q offset c (x .lent) h (x .fragment) (entryCount (x .entries)) e .own .counts
       go (suc n) e t = t
 
@@ -46,15 +47,15 @@ module _ (q offset : ℕ) (c : Catalogue) (h : Held) (x : Call) where
 
 module _ (q offset : ℕ) (c : Catalogue) where
   -- the books after calls are those before them with the history
-  pub after-books : (h : Held) (xs : List Call) → booksOf (after q offset c h xs) ≡ bookedAll (suppliedPlaces c) (history q offset c h xs) (booksOf h)
+  pub after-books : (h : Held) (xs : List Call) → heldBooks (after q offset c h xs) ≡ bookedAll (suppliedPlaces c) (history q offset c h xs) (heldBooks h)
   after-books h [] = refl
   after-books h (x ∷ xs) =
       after-books (next q offset c h x) xs
       ∙ ap (bookedAll (suppliedPlaces c) (history q offset c (next q offset c h x) xs)) (next-books q offset c h x)
-      ∙ sym (booked-append (suppliedPlaces c) (books q offset c h x) (history q offset c (next q offset c h x) xs) (booksOf h))
+      ∙ sym (booked-append (suppliedPlaces c) (books q offset c h x) (history q offset c (next q offset c h x) xs) (heldBooks h))
 
   -- every number that is kept has 64 bits
-  pub after-countable : (h : Held) → countable (booksOf h) ≡ true → (xs : List Call) → countable (booksOf (after q offset c h xs)) ≡ true
+  pub after-countable : (h : Held) → countable (heldBooks h) ≡ true → (xs : List Call) → countable (heldBooks (after q offset c h xs)) ≡ true
   after-countable h t [] = t
   after-countable h t (x ∷ xs) = after-countable (next q offset c h x) (next-countable q offset c h x t) xs
 

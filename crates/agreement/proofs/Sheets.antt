@@ -15,13 +15,13 @@ use Rattle.lists.specs.Sum.{sum}
 use Rattle.lists.proofs.Cases.{clash}
 use Rattle.lists.proofs.Every.{every-∈, every-append}
 use Rattle.lists.specs.Triple.{Triple}
-use Rattle.promises.specs.Refusal.{accepted}
+use Rattle.promises.specs.Refusal.{accepted, ifPassed, isRefused}
 use Rattle.promises.proofs.Refusing.{or-none, outcome-accepted}
 use Rattle.catalogue.specs.Catalogue.{Catalogue, Target, Valid, targets, isMapped, suppliedPlaces}
 use Rattle.index.specs.Index.{mappedSequences}
 use Rattle.ledger.specs.Booking.{Booked, Counters, bookedAll, emptyLedger, emptyCounters, maxCounter, countable}
 use Rattle.ledger.specs.Balance.{countOf, balanced}
-use Rattle.ledger.specs.Counting.{readsIn, readsOf, anyIndeterminate, placementsOn, singlesOn, multiOn, Bookable, Counts}
+use Rattle.ledger.specs.Counting.{readsInState, readsOf, anyIndeterminate, placementsOn, singlesOn, multiOn, Bookable, Counts}
 use Rattle.ledger.proofs.Booking.{booked-lengths}
 use Rattle.ledger.proofs.Counting.{booked-counts}
 use Rattle.ledger.proofs.Balancing.{states-sum, counts-balanced}
@@ -32,13 +32,13 @@ use Rattle.audit_rules.specs.declared.sheet.Status.{Status}
 use Rattle.audit_rules.specs.declared.sheet.Status.the-variants as statuses
 use Rattle.audit_rules.specs.declared.sheet.PlacementTotals.{PlacementTotals}
 use Rattle.audit_rules.specs.declared.sheet.Sheet.{Sheet}
-use Rattle.audit_rules.specs.Settings.{Held, booksOf, rolesOf, statesShown}
-use Rattle.audit_rules.specs.Opening.{IndexLent, started, openingRefusal, openingHeld, opened}
+use Rattle.audit_rules.specs.Settings.{Held, heldBooks, rolesOf, statesShown}
+use Rattle.audit_rules.specs.Opening.{IndexLent, started, openingRefusal, openingHeld, unopened}
 use Rattle.audit_rules.specs.Sheet.{shown, totalsOf, runStatus, sheetOf, roleShown, targetShown, finishRefusal, finishAnswer}
 use Rattle.audit_rules.specs.Run.{Call, after, history}
 use Rattle.audit_rules.proofs.Opening.{opening-passed, opening-number}
 use Rattle.audit_rules.proofs.Catalogues.{places-ranked, target-inside}
-use Rattle.agreement.specs.Meaning.{isRefused, SheetMeans}
+use Rattle.agreement.specs.Meaning.{SheetMeans}
 use Rattle.agreement.proofs.Accepting.{not-refused}
 use Rattle.agreement.proofs.Booking.{shown-few, state-shown, mate-bookable, settings-after, history-all}
 use Rattle.agreement.proofs.Running.{after-books, after-countable}
@@ -87,16 +87,16 @@ module _ (q offset : ℕ) (c : Catalogue) (lent : IndexLent) (s : Settings) (k :
   booked = history q offset c start xs
 
   start-is : start ≡ started c s
-  start-is = ap (λ n. opened n c s k) begun
+  start-is = ap (λ n. ifPassed n (started c s) (unopened k)) begun
 
   bookable : (b : Booked) → b ∈ booked → Bookable (length (suppliedPlaces c)) b
   bookable = history-all q offset c s (Bookable (length (suppliedPlaces c)))
       (mate-bookable c offset s) start (ap (λ (h : Held). h .state .settings) start-is) xs
 
   -- what the state and the counters count
-  pub run-counts : Counts (length (targets c)) (suppliedPlaces c) booked (booksOf end)
+  pub run-counts : Counts (length (targets c)) (suppliedPlaces c) booked (heldBooks end)
   run-counts =
-      subst (Counts (length (targets c)) (suppliedPlaces c) booked) (sym (after-books q offset c start xs ∙ ap (λ h. bookedAll (suppliedPlaces c) booked (booksOf h)) start-is))
+      subst (Counts (length (targets c)) (suppliedPlaces c) booked) (sym (after-books q offset c start xs ∙ ap (λ h. bookedAll (suppliedPlaces c) booked (heldBooks h)) start-is))
       (booked-counts (length (targets c)) (suppliedPlaces c) (places-ranked c (opening-passed q offset c lent s k begun .catalogue)) booked bookable)
 
   settings-end : end .state .settings ≡ s
@@ -107,7 +107,7 @@ module _ (q offset : ℕ) (c : Catalogue) (lent : IndexLent) (s : Settings) (k :
   pub sheet-means : (lent′ : IndexLent) (sheet : Sheet) → finishAnswer q offset c lent′ end ≡ accepted sheet → SheetMeans c s booked sheet (end .counters)
   sheet-means lent′ sheet e = subst (λ (x : Sheet). SheetMeans c s booked x (end .counters)) (outcome-accepted (finishRefusal q offset c lent′ end) (sheetOf end) sheet e .1) means
     where
-      n : Counts (length (targets c)) (suppliedPlaces c) booked (booksOf end)
+      n : Counts (length (targets c)) (suppliedPlaces c) booked (heldBooks end)
       n = run-counts
 
       right : Valid c
@@ -140,18 +140,18 @@ module _ (q offset : ℕ) (c : Catalogue) (lent : IndexLent) (s : Settings) (k :
   shown-states : (b : Booked) → b ∈ booked → b .state ∈ statesShown (s .remap)
   shown-states = history-all q offset c s (λ b. b .state ∈ statesShown (s .remap)) (λ way r. state-shown offset s (mappedSequences c) way r) start (ap (λ (h : Held). h .state .settings) start-is) xs
 
-  start-countable : countable (booksOf (started c s)) ≡ true
+  start-countable : countable (heldBooks (started c s)) ≡ true
   start-countable = empty-countable (length (targets c))
 
-  end-countable : countable (booksOf end) ≡ true
+  end-countable : countable (heldBooks end) ≡ true
   end-countable = after-countable q offset c start (rw start-is start-countable) xs
 
-  end-reads : 3 ≤ length (booksOf end .ledger .reads)
-  end-reads = rw (after-books q offset c start xs) (omega (arith, booked-lengths (suppliedPlaces c) booked (booksOf start) .reads, ap (λ (h : Held). length (h .state .ledger .reads)) start-is))
+  end-reads : 3 ≤ length (heldBooks end .ledger .reads)
+  end-reads = rw (after-books q offset c start xs) (omega (arith, booked-lengths (suppliedPlaces c) booked (heldBooks start) .reads, ap (λ (h : Held). length (h .state .ledger .reads)) start-is))
 
-  end-balanced : balanced (rolesOf (s .mode)) (statesShown (s .remap)) (booksOf end) ≡ true
+  end-balanced : balanced (rolesOf (s .mode)) (statesShown (s .remap)) (heldBooks end) ≡ true
   end-balanced =
-      counts-balanced (length (targets c)) (suppliedPlaces c) booked (booksOf end) run-counts end-countable (rolesOf (s .mode)) (statesShown (s .remap))
+      counts-balanced (length (targets c)) (suppliedPlaces c) booked (heldBooks end) run-counts end-countable (rolesOf (s .mode)) (statesShown (s .remap))
       (shown-roles (s .mode)) (distinct-states (s .remap)) (shown-few (s .remap)) shown-states end-reads
 
   -- `finish` makes the opening's checks, and no more can refuse it
@@ -176,7 +176,7 @@ module _ (q offset : ℕ) (c : Catalogue) (lent : IndexLent) (s : Settings) (k :
       let is : sheetOf end ≡ sheet = outcome-accepted (finishRefusal q offset c lent′ end) (sheetOf end) sheet e .1 in
       subst (λ (x : Sheet). role ∈ rolesOf (x .mode) → sum (map (λ (x : Triple). x .2) (roleShown x role)) ≡ readsOf role booked) is of-end m
     where
-      counted : (states : List ℕ) → ((x : ℕ) → x ∈ states → x < 6) → role < 3 → sum (map (λ (x : Triple). x .2) (map (λ state. (role, state, countOf (end .state .ledger .table) role state)) states)) ≡ sum (map (λ x. readsIn role x booked) states)
+      counted : (states : List ℕ) → ((x : ℕ) → x ∈ states → x < 6) → role < 3 → sum (map (λ (x : Triple). x .2) (map (λ state. (role, state, countOf (end .state .ledger .table) role state)) states)) ≡ sum (map (λ x. readsInState role x booked) states)
       counted [] few h = refl
       counted (x ∷ states) few h = ap₂ _+_ (run-counts .states role x h (few x (inl refl))) (counted states (λ y m. few y (inr m)) h)
 

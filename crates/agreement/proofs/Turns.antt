@@ -11,8 +11,7 @@ use lib.Dec.{eqb}
 use borrow.Author.Tests.{eqb-true}
 use Rattle.lists.proofs.Cases.{clash}
 use Rattle.catch_rules.specs.Job.{Stage, beginning, still, catch}
-use Rattle.catch_rules.specs.Feeding.{Ends, joined}
-use Rattle.progress.specs.declared.Progress.{Progress}
+use Rattle.catch_rules.specs.Feeding.{joined}
 use Rattle.progress.specs.declared.Progress.the-variants as progress
 use Rattle.advances.specs.Advancing.{WentOn, Waited, IsDone, Tells}
 use Rattle.jobs.specs.declared.Advanced.{Advanced}

@@ -2,7 +2,7 @@
 use mathlib.Core.Path.{_≡_}
 use mathlib.Core.List.{List, [], _∷_, map}
 use Prim.Native.Nat.{ℕ}
-use Rattle.promises.specs.Refusal.{Outcome, outcome}
+use Rattle.promises.specs.Refusal.{Outcome, outcome, ifPassed}
 use Rattle.catalogue.specs.Catalogue.{Catalogue}
 use Rattle.ledger.specs.Booking.{Counters}
 use Rattle.audit_rules.specs.declared.calls.Opening.{Opening}
@@ -13,9 +13,9 @@ use Rattle.audit_rules.specs.declared.sheet.Sheet.{Sheet}
 use Rattle.audit_rules.specs.Settings.{Held}
 use Rattle.audit_rules.specs.Opening.{IndexLent, openingRefusal, openingHeld}
 use Rattle.audit_rules.specs.Fragment.{Fragment}
-use Rattle.audit_rules.specs.Sheet.{finishRefusal, finishAnswer}
+use Rattle.audit_rules.specs.Sheet.{finishRefusal, finishAnswer, sheetOf}
 use Rattle.audit_rules.specs.Run.{Call, Answer, answers, after}
-use Rattle.audit_rules.specs.Calls.{callOutcome, fragmentOutcome, finishOutcome, sheetAfter, Opens, Audits, Finishes}
+use Rattle.audit_rules.specs.Calls.{callOutcome, fragmentOutcome, finishOutcome, Opens, Audits, Finishes, zeroSheet}
 
 -- a fragment call: what it was lent, what it answered, and the counters and entries that it left
 pub record MadeCall : Type 0 where
@@ -26,24 +26,24 @@ pub record MadeCall : Type 0 where
   pub counters : Counters
   pub left : List ℕ
 
-abbrev pub callOf : MadeCall → Call
-callOf x = record { lent = x .lent; fragment = x .fragment; entries = x .entries }
+abbrev pub madeCall : MadeCall → Call
+madeCall x = record { lent = x .lent; fragment = x .fragment; entries = x .entries }
 
-abbrev pub answerOf : MadeCall → Answer
-answerOf x = record { rows = fragmentOutcome (x .result .answer); entries = x .left }
+abbrev pub madeAnswer : MadeCall → Answer
+madeAnswer x = record { rows = fragmentOutcome (x .result .answer); entries = x .left }
 
-abbrev pub heldBy : MadeCall → Held
-heldBy x = record { state = x .result .state; counters = x .counters }
+abbrev pub madeHeld : MadeCall → Held
+madeHeld x = record { state = x .result .state; counters = x .counters }
 
 -- each call keeps its promise, and is lent state and counters as the one before it left them
 abbrev pub AllKept : ℕ → ℕ → Catalogue → Held → List MadeCall → Type 0
 AllKept q offset c h [] = Unit {0}
-AllKept q offset c h (x ∷ xs) = Audits q offset c (x .lent) h (x .fragment) (x .entries) (x .result) (x .counters) (x .left) × AllKept q offset c (heldBy x) xs
+AllKept q offset c h (x ∷ xs) = Audits q offset c (x .lent) h (x .fragment) (x .entries) (x .result) (x .counters) (x .left) × AllKept q offset c (madeHeld x) xs
 
 -- what is held behind them
 abbrev pub heldBehind : Held → List MadeCall → Held
 heldBehind h [] = h
-heldBehind h (x ∷ xs) = heldBehind (heldBy x) xs
+heldBehind h (x ∷ xs) = heldBehind (madeHeld x) xs
 
 -- a run: the opening with what it was given and the counters before and behind it, fragment calls, and `finish` with what it was lent
 pub record MadeRun : Type 0 where
@@ -64,11 +64,11 @@ abbrev pub endOf : MadeRun → Held
 endOf r = heldBehind (startOf r) (r .calls)
 
 -- what its calls were lent, what they answered, and what `finish` did
-abbrev pub callsOf : MadeRun → List Call
-callsOf r = map callOf (r .calls)
+abbrev pub madeCalls : MadeRun → List Call
+madeCalls r = map madeCall (r .calls)
 
 abbrev pub answersOf : MadeRun → List Answer
-answersOf r = map answerOf (r .calls)
+answersOf r = map madeAnswer (r .calls)
 
 abbrev pub finishOf : MadeRun → Outcome Sheet
 finishOf r = finishOutcome (r .finish)
@@ -84,7 +84,7 @@ module _ (q offset : ℕ) (c : Catalogue) (r : MadeRun) where
   pub record RunIsPaper : Type 0 where
     pub opened : callOutcome (r .opening .answer) ≡ outcome (openingRefusal q offset c (r .lent) (r .settings) (r .before)) tt
     pub start : startOf r ≡ openingHeld q offset c (r .lent) (r .settings) (r .before)
-    pub answered : answersOf r ≡ answers q offset c (startOf r) (callsOf r)
-    pub held : endOf r ≡ after q offset c (startOf r) (callsOf r)
+    pub answered : answersOf r ≡ answers q offset c (startOf r) (madeCalls r)
+    pub held : endOf r ≡ after q offset c (startOf r) (madeCalls r)
     pub finished : finishOf r ≡ finishAnswer q offset c (r .lentAtEnd) (endOf r)
-    pub sheet : r .finish .sheet ≡ sheetAfter (finishRefusal q offset c (r .lentAtEnd) (endOf r)) (endOf r)
+    pub sheet : r .finish .sheet ≡ ifPassed (finishRefusal q offset c (r .lentAtEnd) (endOf r)) (sheetOf (endOf r)) zeroSheet

@@ -9,7 +9,7 @@ use Rattle.lists.specs.Cut.{window}
 use Rattle.lists.specs.Member.{_∈_}
 use Rattle.lists.specs.Sum.{sum}
 use Rattle.lists.specs.Triple.{Triple}
-use Rattle.promises.specs.Refusal.{Outcome, refused, accepted}
+use Rattle.promises.specs.Refusal.{Outcome, refused, accepted, isRefused}
 use Rattle.bases.specs.Eligibility.{eligibility}
 use Rattle.catalogue.specs.Catalogue.{Catalogue, Target, targets, isMapped, suppliedPlaces}
 use Rattle.seeds.specs.Seeds.{placed}
@@ -20,23 +20,19 @@ use Rattle.answers.specs.Answer.{Row, row}
 use Rattle.indexed_mapper.specs.Match.{Lists}
 use Rattle.ledger.specs.Booking.{Booked, Counters, kept, maxCounter}
 use Rattle.ledger.specs.Balance.{countOf}
-use Rattle.ledger.specs.Counting.{Bookable, Counts, readsIn, readsOf, anyIndeterminate, placementsOn, singlesOn, multiOn}
+use Rattle.ledger.specs.Counting.{Bookable, Counts, readsInState, readsOf, anyIndeterminate, placementsOn, singlesOn, multiOn}
 use Rattle.audit_rules.specs.declared.settings.LastOrdinal.the-variants as ordinals
 use Rattle.audit_rules.specs.declared.settings.Settings.{Settings}
 use Rattle.audit_rules.specs.declared.sheet.Status.the-variants as statuses
 use Rattle.audit_rules.specs.declared.sheet.Availability.the-variants as totals
 use Rattle.audit_rules.specs.declared.sheet.Sheet.{Sheet}
-use Rattle.audit_rules.specs.Settings.{Held, booksOf, roleNumber, rolesOf}
+use Rattle.audit_rules.specs.Settings.{Held, heldBooks, roleNumber, rolesOf}
 use Rattle.audit_rules.specs.Opening.{IndexLent, openingRefusal}
 use Rattle.audit_rules.specs.Observing.{MateRead, verdictRefusal, noWork, isSearched, mateGroups}
 use Rattle.audit_rules.specs.Fragment.{shareOf, fragmentBooks}
 use Rattle.audit_rules.specs.Sheet.{shown, totalsOf, runStatus, roleShown, targetShown, finishRefusal, finishAnswer}
 use Rattle.audit_rules.specs.Run.{Call, Answer, answerTo, next, books, answers, after, history}
 use Rattle.lists.specs.Each.{Each}
-
-abbrev pub isRefused : {A : Type 0} → Outcome A → Bool
-isRefused (refused n) = true
-isRefused (accepted a) = false
 
 -- ---- when a fragment is accepted
 
@@ -86,7 +82,7 @@ pub record ReadsMean (offset : ℕ) (s : Settings) (c : Catalogue) (width : ℕ)
 -- target, by which totals are available exactly where remap is on and no read was indeterminate; totals of a linear target by what was
 -- booked on it, and of the run as their sums; a closed walk has its own status always
 pub record SheetMeans (c : Catalogue) (s : Settings) (bs : List Booked) (sheet : Sheet) (k : Counters) : Type 0 where
-  pub states : (role state : ℕ) → role < 3 → state < 6 → countOf (sheet .table) role state ≡ readsIn role state bs
+  pub states : (role state : ℕ) → role < 3 → state < 6 → countOf (sheet .table) role state ≡ readsInState role state bs
   pub linear :
       (t : Target) → t ∈ targets c → isMapped t ≡ true
       → targetShown sheet k t ≡ shown (runStatus (s .remap) (anyIndeterminate bs)) (totalsOf (placementsOn (suppliedPlaces c) (t .place) bs) (singlesOn (suppliedPlaces c) (t .place) bs) (multiOn (suppliedPlaces c) (t .place) bs))
@@ -110,7 +106,7 @@ pub data CallsMean (q offset : ℕ) (c : Catalogue) : Held → List Call → Lis
 -- book, what state and counters count, and what an accepted `finish` shows
 pub record RunMeans (q offset : ℕ) (c : Catalogue) (s : Settings) (h : Held) (xs : List Call) (answered : List Answer) (end : Held) (finish : Outcome Sheet) : Type 0 where
   pub calls : CallsMean q offset c h xs answered
-  pub counts : Counts (length (targets c)) (suppliedPlaces c) (history q offset c h xs) (booksOf end)
+  pub counts : Counts (length (targets c)) (suppliedPlaces c) (history q offset c h xs) (heldBooks end)
   pub sheet : (sheet : Sheet) → finish ≡ accepted sheet → SheetMeans c s (history q offset c h xs) sheet (end .counters)
 
 -- its books are never apart; `finish` is accepted exactly where the opening's checks pass, and shows as many reads of a role, over its

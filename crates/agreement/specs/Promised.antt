@@ -6,7 +6,7 @@ use Rattle.promises.specs.Refusal.{accepted}
 use Rattle.audit_rules.specs.Opening.{columns, none}
 use Rattle.audit_rules.specs.Calls.{callOutcome}
 use Rattle.agreement.specs.Twins.{TwinCall, indexedCall, plainCall}
-use Rattle.agreement.specs.Made.{MadeRun, callsOf}
+use Rattle.agreement.specs.Made.{MadeRun, madeCalls}
 
 -- its opening was accepted
 abbrev pub Opened : MadeRun → Type 0
@@ -20,6 +20,6 @@ pub record TwinRuns (r r′ : MadeRun) (xs : List TwinCall) : Type 0 where
   pub settings : r′ .settings ≡ r .settings
   pub lent : r .lent ≡ columns keys ranks positions
   pub plain : r′ .lent ≡ none
-  pub calls : callsOf r ≡ map indexedCall xs
-  pub plain-calls : callsOf r′ ≡ map plainCall xs
+  pub calls : madeCalls r ≡ map indexedCall xs
+  pub plain-calls : madeCalls r′ ≡ map plainCall xs
   pub plain-end : r′ .lentAtEnd ≡ none

@@ -4,7 +4,7 @@ use mathlib.Core.Bool.{Bool, false, cond}
 use mathlib.Core.List.{List, map}
 use Prim.Native.Nat.{ℕ, _*_, _≤_}
 use Rattle.lists.specs.Cut.{window}
-use Rattle.promises.specs.Refusal.{Outcome, refused, accepted}
+use Rattle.promises.specs.Refusal.{Outcome, refused, accepted, isRefused}
 use Rattle.bases.specs.Read.{turned}
 use Rattle.catalogue.specs.Catalogue.{Catalogue}
 use Rattle.scan.specs.Entries.{entryCount}
@@ -18,7 +18,6 @@ use Rattle.audit_rules.specs.Fragment.{shareOf}
 use Rattle.audit_rules.specs.Sheet.{targetsShown}
 use Rattle.audit_rules.specs.Run.{Call, Answer}
 use Rattle.lists.specs.Each.{Each}
-use Rattle.agreement.specs.Meaning.{isRefused}
 use Rattle.agreement.specs.Placements.{placementsIn, placementsIf}
 
 -- ---- one list of calls for both

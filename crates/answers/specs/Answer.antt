@@ -5,7 +5,7 @@ use mathlib.Core.List.{List, []}
 use Prim.Native.Nat.{ℕ, zero, suc}
 use lib.ListN.{length}
 use lib.Dec.{eqb, ltb}
-use Rattle.promises.specs.Refusal.{unless, Outcome, refused, accepted, outcome}
+use Rattle.promises.specs.Refusal.{unless, Outcome, refused, accepted, outcome, ifPassed}
 use Rattle.seeds.specs.Seeds.{placed}
 use Rattle.places.specs.Place.{Place, groups}
 use Rattle.scan.specs.Entries.{entriesOf, entryCount, cleared}
@@ -61,8 +61,7 @@ roomRefusal entries limit matched = unless (not (ltb entries matched && ltb entr
 
 -- the entries after a call: an accepted one sets them to zero and lists groups, 10 sets them to zero, others touch nothing
 abbrev pub entriesAfter : ℕ → List ℕ → List ℕ → List ℕ
-entriesAfter zero rows buffer = placed 0 rows (cleared buffer)
-entriesAfter (suc n) rows buffer = cond (eqb (suc n) 10) (cleared buffer) buffer
+entriesAfter n rows buffer = ifPassed n (placed 0 rows (cleared buffer)) (cond (eqb n 10) (cleared buffer) buffer)
 
 -- ---- the answer for a read of n bases with its groups, where the refusal is known; `ranked` holds the supplied place of each rank
 

@@ -7,6 +7,7 @@ use Prim.Native.Nat.{ℕ, zero, suc, _<_}
 use native.Mathlib.Omega.{arith}
 use lib.ListN.{length}
 use lib.Dec.{ltb}
+use Rattle.promises.specs.Refusal.{ifPassed}
 use Rattle.lists.proofs.Cases.{by-test}
 use Rattle.catalogue.specs.Catalogue.{Catalogue}
 use Rattle.index.specs.Index.{mappedSequences}
@@ -22,7 +23,7 @@ use Rattle.audit_rules.specs.declared.settings.Settings.{Settings}
 use Rattle.audit_rules.specs.Settings.{Held, roleNumber}
 use Rattle.audit_rules.specs.Opening.{IndexLent, columns, wayOf}
 use Rattle.audit_rules.specs.Observing.{MateRead, isSearched, mateRow}
-use Rattle.audit_rules.specs.Fragment.{fragmentBooked, heldAfter}
+use Rattle.audit_rules.specs.Fragment.{fragmentBooked}
 
 -- there are three roles
 pub few-roles : (role : MateRole) → roleNumber role < 3
@@ -31,7 +32,7 @@ few-roles roles.R1 = omega arith
 few-roles roles.R2 = omega arith
 
 -- a refused call leaves state and counters as they were
-pub refused-holds : (n : ℕ) → (n ≡ 0 → ⊥) → (accepted h : Held) → heldAfter n accepted h ≡ h
+pub refused-holds : (n : ℕ) → (n ≡ 0 → ⊥) → (accepted h : Held) → ifPassed n accepted h ≡ h
 refused-holds zero ne accepted h = absurd (ne refl)
 refused-holds (suc n) ne accepted h = refl
 

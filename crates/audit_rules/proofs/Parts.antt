@@ -24,7 +24,7 @@ use Rattle.audit_rules.specs.declared.settings.AuditInputMode.the-varian
 use Rattle.audit_rules.specs.declared.settings.Settings.{Settings}
 use Rattle.audit_rules.specs.Settings.{roleNumber, rolesOf}
 use Rattle.audit_rules.specs.Observing.{MateRead, mateGroups, mateRoom, mateListed, mateEntries}
-use Rattle.audit_rules.specs.Fragment.{rolesRight, firstOf, shareOf, inParts}
+use Rattle.audit_rules.specs.Fragment.{rolesRight, firstRefusal, shareOf, inParts}
 
 -- ---- lists put into parts
 
@@ -122,14 +122,14 @@ module _ (offset : ℕ) (s : Settings) (ss : List (List ℕ)) (ranked : List ℕ
       let e = length-entries ranked (length (r .read .bases)) (mateListed offset s ss r) in
       omega (arith, e, listed-room share (s .limit) (mateGroups offset s ss r) z)
 
-  entries-short : (share : ℕ) (reads : List MateRead) → firstOf (mateRoom offset s ss share) reads ≡ 0 → Short (4 * share) (map (mateEntries offset s ss ranked) reads)
+  entries-short : (share : ℕ) (reads : List MateRead) → firstRefusal (mateRoom offset s ss share) reads ≡ 0 → Short (4 * share) (map (mateEntries offset s ss ranked) reads)
   entries-short share [] z = tt
   entries-short share (r ∷ rs) z = (
-    entries-fit share r (none-first (mateRoom offset s ss share r) (firstOf (mateRoom offset s ss share) rs) z),
-    entries-short share rs (none-second (mateRoom offset s ss share r) (firstOf (mateRoom offset s ss share) rs) z),
+    entries-fit share r (none-first (mateRoom offset s ss share r) (firstRefusal (mateRoom offset s ss share) rs) z),
+    entries-short share rs (none-second (mateRoom offset s ss share r) (firstRefusal (mateRoom offset s ss share) rs) z),
   )
 
-  module _ (reads : List MateRead) (b : List ℕ) (roles : rolesRight (s .mode) reads ≡ true) (room : firstOf (mateRoom offset s ss (shareOf (s .mode) (entryCount b))) reads ≡ 0) where
+  module _ (reads : List MateRead) (b : List ℕ) (roles : rolesRight (s .mode) reads ≡ true) (room : firstRefusal (mateRoom offset s ss (shareOf (s .mode) (entryCount b))) reads ≡ 0) where
     abbrev width : ℕ
     width = 4 * shareOf (s .mode) (entryCount b)
 

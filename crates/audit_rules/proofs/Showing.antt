@@ -4,7 +4,6 @@ use mathlib.Core.Path.{_≡_, refl}
 use mathlib.Core.Bool.{Bool, true, false}
 use Rattle.catalogue.specs.Catalogue.{Target, isMapped}
 use Rattle.ledger.specs.Booking.{Counters}
-use Rattle.audit_rules.specs.declared.sheet.Availability.{Availability}
 use Rattle.audit_rules.specs.declared.sheet.Availability.the-variants as totals
 use Rattle.audit_rules.specs.declared.sheet.PlacementTotals.{PlacementTotals}
 use Rattle.audit_rules.specs.declared.sheet.Sheet.{Sheet}

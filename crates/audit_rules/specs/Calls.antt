@@ -5,7 +5,7 @@ use mathlib.Core.List.{List, [], _∷_}
 use Prim.Native.Nat.{ℕ, zero, suc}
 use lib.ListN.{replicate}
 use Rattle.promises.specs.Slice.{Slice, old}
-use Rattle.promises.specs.Refusal.{Outcome, refused, accepted, outcome}
+use Rattle.promises.specs.Refusal.{Outcome, refused, accepted, outcome, ifPassed}
 use Rattle.bases.specs.Read.{readOf}
 use Rattle.catalogue.specs.Catalogue.{Catalogue}
 use Rattle.scan.specs.Entries.{entryCount}
@@ -44,12 +44,12 @@ abbrev pub mateOf : MateRole → List ℕ → Bool → List ℕ → MateRead
 mateOf role bases present qualities = record { role = role; read = readOf bases present qualities }
 
 -- n reads of which two are lent: the second stands for all further ones, which are refused 13 whatever they are
-abbrev pub lentReads : ℕ → MateRead → MateRead → List MateRead
-lentReads zero first second = []
-lentReads (suc n) first second = first ∷ replicate n second
+abbrev pub fragmentReads : ℕ → MateRead → MateRead → List MateRead
+fragmentReads zero first second = []
+fragmentReads (suc n) first second = first ∷ replicate n second
 
 abbrev pub fragmentOf : ℕ → ℕ → MateRead → MateRead → Fragment
-fragmentOf ordinal count first second = record { ordinal = ordinal; reads = lentReads count first second }
+fragmentOf ordinal count first second = record { ordinal = ordinal; reads = fragmentReads count first second }
 
 -- ---- the same, as the slices of a call hold it when the call is made
 
@@ -101,11 +101,7 @@ pub record Audits (q offset : ℕ) (c : Catalogue) (lent : IndexLent) (h : Held)
 abbrev pub zeroSheet : Sheet
 zeroSheet = sheetOf (record { state = zeroState; counters = countersOf [] [] [] })
 
-abbrev pub sheetAfter : ℕ → Held → Sheet
-sheetAfter zero h = sheetOf h
-sheetAfter (suc n) h = zeroSheet
-
 -- `finish`
 pub record Finishes (q offset : ℕ) (c : Catalogue) (lent : IndexLent) (h : Held) (r : Finish) : Type 0 where
   pub answer : callOutcome (r .answer) ≡ outcome (finishRefusal q offset c lent h) tt
-  pub sheet : r .sheet ≡ sheetAfter (finishRefusal q offset c lent h) h
+  pub sheet : r .sheet ≡ ifPassed (finishRefusal q offset c lent h) (sheetOf h) zeroSheet

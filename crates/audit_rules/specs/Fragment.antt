@@ -4,7 +4,7 @@ use mathlib.Core.List.{List, [], _∷_, map}
 use Prim.Native.Nat.{ℕ, zero, suc, _+_, _*_, _/_}
 use lib.Dec.{eqb, ltb}
 use Rattle.lists.specs.Same.{same}
-use Rattle.promises.specs.Refusal.{unless, _orElse_, Outcome, outcome}
+use Rattle.promises.specs.Refusal.{unless, _orElse_, Outcome, outcome, ifPassed}
 use Rattle.catalogue.specs.Catalogue.{Catalogue, suppliedPlaces}
 use Rattle.seeds.specs.Seeds.{placed}
 use Rattle.index.specs.Index.{mappedSequences}
@@ -17,7 +17,7 @@ use Rattle.audit_rules.specs.declared.settings.AuditInputMode.the-varian
 use Rattle.audit_rules.specs.declared.settings.Settings.{Settings}
 use Rattle.audit_rules.specs.declared.settings.LastOrdinal.{LastOrdinal}
 use Rattle.audit_rules.specs.declared.settings.LastOrdinal.the-variants as ordinals
-use Rattle.audit_rules.specs.Settings.{Held, booksOf, roleNumber, rolesOf}
+use Rattle.audit_rules.specs.Settings.{Held, heldBooks, roleNumber, rolesOf}
 use Rattle.audit_rules.specs.Opening.{IndexLent, wayOf, openingRefusal}
 use Rattle.audit_rules.specs.Observing.{MateRead, mateRefusal, mateRoom, mateRow, mateBooked, mateEntries}
 
@@ -37,9 +37,9 @@ abbrev pub rolesRight : AuditInputMode → List MateRead → Bool
 rolesRight mode reads = same (map (λ (r : MateRead). roleNumber (r .role)) reads) (rolesOf mode)
 
 -- the first refusal of some reads, each by a check
-abbrev pub firstOf : {A : Type 0} → (A → ℕ) → List A → ℕ
-firstOf check [] = 0
-firstOf check (r ∷ rs) = check r orElse firstOf check rs
+abbrev pub firstRefusal : {A : Type 0} → (A → ℕ) → List A → ℕ
+firstRefusal check [] = 0
+firstRefusal check (r ∷ rs) = check r orElse firstRefusal check rs
 
 -- ---- the entries of each read
 
@@ -55,8 +55,7 @@ inParts width from (l ∷ ls) buffer = inParts width (from + width) ls (placed f
 
 -- 10 and 17 set all entries to zero, other refusals touch nothing
 abbrev pub entriesLeft : ℕ → List ℕ → List ℕ → List ℕ
-entriesLeft zero written buffer = written
-entriesLeft (suc n) written buffer = cond (eqb (suc n) 10 || eqb (suc n) 17) (cleared buffer) buffer
+entriesLeft n written buffer = ifPassed n written (cond (eqb n 10 || eqb n 17) (cleared buffer) buffer)
 
 -- ---- a fragment in a catalogue that was tested: sequences by rank, the supplied place of each, and a way to search them
 
@@ -70,15 +69,15 @@ module _ (offset : ℕ) (ss : List (List ℕ)) (way : Way) (ranked : List ℕ) (
 
   -- the books with its reads
   abbrev pub testedBooks : Books
-  testedBooks = bookedAll ranked testedBooked (booksOf h)
+  testedBooks = bookedAll ranked testedBooked (heldBooks h)
 
   -- 12; 13; 7 and 14 to 16 of each read in turn; 10 of each read; 17: the first that holds
   unfoldable pub testedRefusal : ℕ → ℕ
   testedRefusal entries =
       unless (inOrder (h .state .last) (f .ordinal)) 12
       orElse unless (rolesRight (settings .mode) (f .reads)) 13
-      orElse firstOf (mateRefusal offset settings) (f .reads)
-      orElse firstOf (mateRoom offset settings ss (shareOf (settings .mode) entries)) (f .reads)
+      orElse firstRefusal (mateRefusal offset settings) (f .reads)
+      orElse firstRefusal (mateRoom offset settings ss (shareOf (settings .mode) entries)) (f .reads)
       orElse unless (countable testedBooks) 17
 
   -- a row for each read
@@ -98,11 +97,6 @@ module _ (offset : ℕ) (ss : List (List ℕ)) (way : Way) (ranked : List ℕ) (
   testedWritten buffer =
       inParts (4 * shareOf (settings .mode) (entryCount buffer)) 0
       (map (mateEntries offset settings ss ranked) (f .reads)) (cleared buffer)
-
--- a refusal leaves state and counters as they were
-abbrev pub heldAfter : ℕ → Held → Held → Held
-heldAfter zero accepted h = accepted
-heldAfter (suc n) accepted h = h
 
 -- ---- the call, of an audit with seeds of q bases and qualities from an offset on
 
@@ -129,8 +123,9 @@ module _ (q offset : ℕ) (c : Catalogue) (lent : IndexLent) (h : Held) (f : Fra
   abbrev pub fragmentAccepted : Held
   fragmentAccepted = testedAccepted offset (mappedSequences c) (wayOf q lent) (suppliedPlaces c) h f
 
+  -- a refusal leaves state and counters as they were
   abbrev pub fragmentHeld : ℕ → Held
-  fragmentHeld entries = heldAfter (fragmentRefusal entries) fragmentAccepted h
+  fragmentHeld entries = ifPassed (fragmentRefusal entries) fragmentAccepted h
 
   abbrev pub fragmentWritten : List ℕ → List ℕ
   fragmentWritten = testedWritten offset (mappedSequences c) (wayOf q lent) (suppliedPlaces c) h f

@@ -4,12 +4,12 @@ use mathlib.Core.List.{List}
 use Prim.Native.Nat.{ℕ, zero, suc}
 use lib.ListN.{length}
 use lib.Dec.{eqb}
-use Rattle.promises.specs.Refusal.{unless, _orElse_}
+use Rattle.promises.specs.Refusal.{unless, _orElse_, ifPassed}
 use Rattle.catalogue.specs.Catalogue.{Catalogue, targets, catalogueRefusal}
 use Rattle.index.specs.Index.{index, columnsOf}
 use Rattle.index_search.specs.Work.{Way, byIndex, plain}
 use Rattle.answers.specs.Bounds.{limitRight}
-use Rattle.ledger.specs.Booking.{Counters, emptyCounters}
+use Rattle.ledger.specs.Booking.{Counters, emptyCounters, countersFor}
 use Rattle.audit_rules.specs.declared.settings.Settings.{Settings}
 use Rattle.audit_rules.specs.Settings.{Held, floorRight, freshState, zeroState}
 
@@ -28,25 +28,20 @@ abbrev pub indexRight : ℕ → Catalogue → IndexLent → Bool
 indexRight q c (columns ks rs os) = columnsOf (index q c) ks rs os
 indexRight q c none = true
 
--- one counter of each kind for each target
-abbrev pub countersRight : Catalogue → Counters → Bool
-countersRight c k = eqb (length (k .placements)) (length (targets c)) && eqb (length (k .singles)) (length (targets c)) && eqb (length (k .multi)) (length (targets c))
-
 module _ (q offset : ℕ) (c : Catalogue) (lent : IndexLent) where
   -- 11, 9, 2, 3, 4, and 6 with remap on: the first whose condition holds; 2 is for counters too
   unfoldable pub openingRefusal : Settings → Counters → ℕ
   openingRefusal s k =
-      unless (floorRight offset (s .floor)) 11 orElse unless (limitRight (s .limit)) 9 orElse unless (countersRight c k) 2 orElse catalogueRefusal c
+      unless (floorRight offset (s .floor)) 11 orElse unless (limitRight (s .limit)) 9 orElse unless (countersFor (length (targets c)) k) 2 orElse catalogueRefusal c
       orElse unless (not (s .remap) || indexRight q c lent) 6
 
 -- what a run starts from: a fresh state, and counters of zero
 abbrev pub started : Catalogue → Settings → Held
 started c s = record { state = freshState s; counters = emptyCounters (length (targets c)) }
 
--- what an opening leaves, by its refusal, which is 0 where it is accepted; refused, the all-zero state and the counters as they were
-abbrev pub opened : ℕ → Catalogue → Settings → Counters → Held
-opened zero c s k = started c s
-opened (suc n) c s k = record { state = zeroState; counters = k }
+-- what a refused opening leaves: the all-zero state, and the counters as they were
+abbrev pub unopened : Counters → Held
+unopened k = record { state = zeroState; counters = k }
 
 abbrev pub openingHeld : ℕ → ℕ → Catalogue → IndexLent → Settings → Counters → Held
-openingHeld q offset c lent s k = opened (openingRefusal q offset c lent s k) c s k
+openingHeld q offset c lent s k = ifPassed (openingRefusal q offset c lent s k) (started c s) (unopened k)

@@ -1,7 +1,7 @@
 -- A run: an opening, fragments one after the other, `finish` last (REFERENCE.md, "Runs").
 use mathlib.Core.List.{List, [], _∷_, _++_}
 use Prim.Native.Nat.{ℕ, zero, suc}
-use Rattle.promises.specs.Refusal.{Outcome}
+use Rattle.promises.specs.Refusal.{Outcome, ifPassed}
 use Rattle.catalogue.specs.Catalogue.{Catalogue}
 use Rattle.scan.specs.Entries.{entryCount}
 use Rattle.answers.specs.Answer.{Row}
@@ -21,11 +21,6 @@ pub record Answer : Type 0 where
   pub rows : Outcome (List Row)
   pub entries : List ℕ
 
--- reads that are booked only where there is no refusal
-abbrev pub ifAccepted : ℕ → List Booked → List Booked
-ifAccepted zero bs = bs
-ifAccepted (suc n) bs = []
-
 module _ (q offset : ℕ) (c : Catalogue) where
   -- ---- one call
 
@@ -39,9 +34,9 @@ module _ (q offset : ℕ) (c : Catalogue) where
   abbrev pub next : Held → Call → Held
   next h x = fragmentHeld q offset c (x .lent) h (x .fragment) (entryCount (x .entries))
 
-  -- the reads that it books
+  -- the reads that it books; refused, none
   abbrev pub books : Held → Call → List Booked
-  books h x = ifAccepted (fragmentRefusal q offset c (x .lent) h (x .fragment) (entryCount (x .entries))) (fragmentBooked q offset c (x .lent) h (x .fragment))
+  books h x = ifPassed (fragmentRefusal q offset c (x .lent) h (x .fragment) (entryCount (x .entries))) (fragmentBooked q offset c (x .lent) h (x .fragment)) []
 
   -- ---- calls one after the other, each with the opening's targets and with state and counters as the one before left them
 

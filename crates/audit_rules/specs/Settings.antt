@@ -60,5 +60,5 @@ pub record Held : Type 0 where
   pub counters : Counters
 
 -- the books that are held
-abbrev pub booksOf : Held → Books
-booksOf h = record { ledger = h .state .ledger; counters = h .counters }
+abbrev pub heldBooks : Held → Books
+heldBooks h = record { ledger = h .state .ledger; counters = h .counters }

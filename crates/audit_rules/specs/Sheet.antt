@@ -15,7 +15,7 @@ use Rattle.audit_rules.specs.declared.sheet.PlacementTotals.{PlacementTo
 use Rattle.audit_rules.specs.declared.sheet.Availability.the-variants as totals
 use Rattle.audit_rules.specs.declared.sheet.Shown.{Shown}
 use Rattle.audit_rules.specs.declared.sheet.Sheet.{Sheet}
-use Rattle.audit_rules.specs.Settings.{Held, booksOf, rolesOf, statesShown}
+use Rattle.audit_rules.specs.Settings.{Held, heldBooks, rolesOf, statesShown}
 use Rattle.audit_rules.specs.Opening.{IndexLent, openingRefusal}
 
 -- ---- statuses
@@ -91,7 +91,7 @@ targetsShown sheet k c = map (targetShown sheet k) (targets c)
 
 -- 18, where the books do not agree with themselves
 abbrev pub booksRefusal : Held → ℕ
-booksRefusal h = unless (balanced (rolesOf (h .state .settings .mode)) (statesShown (h .state .settings .remap)) (booksOf h)) 18
+booksRefusal h = unless (balanced (rolesOf (h .state .settings .mode)) (statesShown (h .state .settings .remap)) (heldBooks h)) 18
 
 module _ (q offset : ℕ) (c : Catalogue) (lent : IndexLent) (h : Held) where
   -- the opening's checks, then 18

@@ -5,14 +5,13 @@ use Prim.Native.Nat.{ℕ, zero, suc, _*_}
 use lib.ListN.{length}
 use lib.Dec.{eqb}
 use Rattle.lists.specs.Same.{same}
-use Rattle.promises.specs.Refusal.{unless, _orElse_}
+use Rattle.promises.specs.Refusal.{unless, _orElse_, ifPassed}
 use Rattle.catalogue.specs.Catalogue.{Catalogue, Target, targets, inBounds}
-use Rattle.ledger.specs.Booking.{Counters}
+use Rattle.ledger.specs.Booking.{Counters, countersFor}
 use Rattle.audit_rules.specs.declared.sheet.Availability.{Availability}
 use Rattle.audit_rules.specs.declared.sheet.Availability.the-variants as totals
 use Rattle.audit_rules.specs.declared.sheet.Shown.{Shown}
 use Rattle.audit_rules.specs.declared.sheet.Sheet.{Sheet}
-use Rattle.audit_rules.specs.Opening.{countersRight}
 use Rattle.audit_rules.specs.Sheet.{statusNumber, targetsShown}
 
 -- the same identifier and topology
@@ -44,13 +43,9 @@ module _ (audited c : Catalogue) (sheet : Sheet) (k : Counters) where
   -- 2, for both catalogues, the counters, and rows that are not one per target; then 19
   unfoldable pub applyRefusal : List ℕ → ℕ
   applyRefusal rows =
-      unless (inBounds c && inBounds audited && countersRight audited k && eqb (length rows) (4 * length (targets c))) 2
+      unless (inBounds c && inBounds audited && countersFor (length (targets audited)) k && eqb (length rows) (4 * length (targets c))) 2
       orElse unless (allAlike (targets audited) (targets c)) 19
 
-  -- a refusal writes nothing
-  abbrev pub rowsAfter : ℕ → List ℕ → List ℕ
-  rowsAfter zero rows = shownRows (targetsShown sheet k c)
-  rowsAfter (suc n) rows = rows
-
+  -- a row for each target; a refusal writes nothing
   abbrev pub applied : List ℕ → List ℕ
-  applied rows = rowsAfter (applyRefusal rows) rows
+  applied rows = ifPassed (applyRefusal rows) (shownRows (targetsShown sheet k c)) rows

@@ -50,8 +50,8 @@ module _ (first second : ReadTally) (two : Bool) (width : â„•) (entries : List â
           let c = counters-as-many (length (k .placements)) ts k (p .postable .counters) in
           rw (e, q, g)
           (record {
-            counters = rw (c .placements) c;
-            targeted = rw (c .placements) (o .targeted);
+            counters = rw (c .each .placements) c;
+            targeted = rw (c .each .placements) (o .targeted);
             fits = rw t at (p .fits);
           })
 

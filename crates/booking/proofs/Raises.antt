@@ -10,10 +10,10 @@ use Rattle.lists.specs.Raised.{raisedAt}
 use Rattle.lists.proofs.Cases.{and-true}
 use Rattle.lists.proofs.Raised.{length-raisedAt}
 use Rattle.ledger.specs.Booking.{Counters, singleTargets, countersOf}
-use Rattle.raising.specs.Targets.{targetsIn, chosen, small, Raisable, Fittable}
+use Rattle.raising.specs.Targets.{targetsIn, countedTargets, small, Raisable, Fittable}
 use Rattle.raising.proofs.Adding.{small-before}
 use Rattle.posting.specs.Posting.{severalRuns}
-use Rattle.booking.specs.Books.{countersRaised, singleCount, severalCount, countersSmall, CountersFor, CountersRaisable, CountersFittable}
+use Rattle.booking.specs.Books.{countersRaised, singleCount, severalCount, countersSmall, CountersLent, CountersRaisable, CountersFittable}
 use Rattle.booking.proofs.Groups.{single-fewer, several-fewer, singles-are, several-are, fewer-targeted, fewer-small}
 
 -- ---- of 64 bits
@@ -45,13 +45,16 @@ counters-before ts k e =
     })
 
 -- raised counters are as many
-pub counters-as-many : (targets : ℕ) (ts : List ℕ) (k : Counters) → CountersFor targets k → CountersFor targets (countersRaised ts k)
+pub counters-as-many : (targets : ℕ) (ts : List ℕ) (k : Counters) → CountersLent targets k → CountersLent targets (countersRaised ts k)
 counters-as-many targets ts k h =
     record {
       few = h .few;
-      placements = length-raisedAt ts (k .placements) ∙ h .placements;
-      singles = length-raisedAt (singleTargets ts) (k .singles) ∙ h .singles;
-      multi = length-raisedAt (severalRuns ts) (k .multi) ∙ h .multi;
+      each =
+          record {
+            placements = length-raisedAt ts (k .placements) ∙ h .each .placements;
+            singles = length-raisedAt (singleTargets ts) (k .singles) ∙ h .each .singles;
+            multi = length-raisedAt (severalRuns ts) (k .multi) ∙ h .each .multi;
+          };
     }
 
 -- ---- raised by one read
@@ -67,7 +70,7 @@ module _ (n : ℕ) (entries : List ℕ) (k : Counters) (p : CountersRaisable n e
   singles-raisable r e =
       rw e
       (record {
-        targeted = rw (p .counters .singles) (fewer-targeted n (singleCount n) entries (length (k .placements)) (single-fewer n) (p .targeted));
+        targeted = rw (p .counters .each .singles) (fewer-targeted n (singleCount n) entries (length (k .placements)) (single-fewer n) (p .targeted));
         fits = rw (singles-are n entries) (h .singles);
       })
 
@@ -75,12 +78,12 @@ module _ (n : ℕ) (entries : List ℕ) (k : Counters) (p : CountersRaisable n e
   multi-raisable r e =
       rw e
       (record {
-        targeted = rw (p .counters .multi) (fewer-targeted n (severalCount n) entries (length (k .placements)) (several-fewer n) (p .targeted));
+        targeted = rw (p .counters .each .multi) (fewer-targeted n (severalCount n) entries (length (k .placements)) (several-fewer n) (p .targeted));
         fits = rw (several-are n entries) (h .multi);
       })
 
 -- what the three raises leave
-pub raised-are : (n : ℕ) (entries : List ℕ) (k : Counters) (s m : ℕ) → s ≡ singleCount n → m ≡ severalCount n → (p′ s′ m′ : List ℕ) → p′ ≡ raisedAt (targetsIn n entries) (k .placements) → s′ ≡ raisedAt (targetsIn s entries) (k .singles) → m′ ≡ raisedAt (chosen false (targetsIn m entries)) (k .multi) → countersOf p′ s′ m′ ≡ countersRaised (targetsIn n entries) k
+pub raised-are : (n : ℕ) (entries : List ℕ) (k : Counters) (s m : ℕ) → s ≡ singleCount n → m ≡ severalCount n → (p′ s′ m′ : List ℕ) → p′ ≡ raisedAt (targetsIn n entries) (k .placements) → s′ ≡ raisedAt (targetsIn s entries) (k .singles) → m′ ≡ raisedAt (countedTargets false (targetsIn m entries)) (k .multi) → countersOf p′ s′ m′ ≡ countersRaised (targetsIn n entries) k
 raised-are n entries k s m f g p′ s′ m′ p q t = rw (p, q, t, f, g, singles-are n entries, several-are n entries)
 
 -- ---- by two
@@ -100,5 +103,5 @@ module _ (n : ℕ) (first : List ℕ) (m : ℕ) (second : List ℕ) (k : Counter
   pub singles-fit : (r q : ℕ) → r ≡ singleCount n → q ≡ singleCount m → (t : Bool) → t ≡ small (raisedAt (targetsIn q second) (raisedAt (targetsIn r first) (k .singles))) → t ≡ small (both .singles)
   singles-fit r q e f t h = h ∙ rw (e, f, singles-are n first, singles-are m second)
 
-  pub multi-fit : (r q : ℕ) → r ≡ severalCount n → q ≡ severalCount m → (t : Bool) → t ≡ small (raisedAt (chosen false (targetsIn q second)) (raisedAt (chosen false (targetsIn r first)) (k .multi))) → t ≡ small (both .multi)
+  pub multi-fit : (r q : ℕ) → r ≡ severalCount n → q ≡ severalCount m → (t : Bool) → t ≡ small (raisedAt (countedTargets false (targetsIn q second)) (raisedAt (countedTargets false (targetsIn r first)) (k .multi))) → t ≡ small (both .multi)
   multi-fit r q e f t h = h ∙ rw (e, f, several-are n first, several-are m second)

@@ -6,7 +6,7 @@ use Prim.Native.Nat.{ℕ, _<_, _≤_}
 use lib.ListN.{length, drop}
 use lib.Dec.{eqb, ltb}
 use Rattle.lists.specs.Raised.{raisedAt}
-use Rattle.ledger.specs.Booking.{Counters, Books, singleTargets, countersOf}
+use Rattle.ledger.specs.Booking.{Counters, Books, singleTargets, countersOf, CountersFor}
 use Rattle.ledger.specs.declared.Ledger.{Ledger}
 use Rattle.raising.specs.Targets.{targetsIn, small, maxGroups, Targeted}
 use Rattle.posting.specs.declared.Posted.{Posted}
@@ -84,28 +84,26 @@ pub record Postable (targets : ℕ) (x : Posting) : Type 0 where
   pub targeted : Targeted (x .tally .groups) (x .entries) targets
 
 -- one counter of each kind for each of at most 4096 targets
-pub record CountersFor (targets : ℕ) (k : Counters) : Type 0 where
+pub record CountersLent (targets : ℕ) (k : Counters) : Type 0 where
   pub few : targets ≤ 4096
-  pub placements : length (k .placements) ≡ targets
-  pub singles : length (k .singles) ≡ targets
-  pub multi : length (k .multi) ≡ targets
+  pub each : CountersFor targets k
 
 -- n groups at the front of entries, for whose targets counters have room
 pub record CountersRaisable (n : ℕ) (entries : List ℕ) (k : Counters) : Type 0 where
-  pub counters : CountersFor (length (k .placements)) k
+  pub counters : CountersLent (length (k .placements)) k
   pub targeted : Targeted n entries (length (k .placements))
   pub fits : countersSmall (countersRaised (targetsIn n entries) k) ≡ true
 
 -- the groups of two reads, whose targets have counters
 pub record CountersFittable (n : ℕ) (first : List ℕ) (m : ℕ) (second : List ℕ) (k : Counters) : Type 0 where
-  pub counters : CountersFor (length (k .placements)) k
+  pub counters : CountersLent (length (k .placements)) k
   pub first-targeted : Targeted n first (length (k .placements))
   pub second-targeted : Targeted m second (length (k .placements))
   pub few : (n ≤ maxGroups) × (m ≤ maxGroups)
 
 -- the reads of a fragment, whose targets have counters
 pub record FragmentPostable (first second : ReadTally) (two : Bool) (width : ℕ) (entries : List ℕ) (k : Counters) : Type 0 where
-  pub counters : CountersFor (length (k .placements)) k
+  pub counters : CountersLent (length (k .placements)) k
   pub within : width ≤ length entries
   pub first-postable : Postable (length (k .placements)) (record { tally = first; entries = entries })
   pub second-postable : two ≡ true → Postable (length (k .placements)) (record { tally = second; entries = drop width entries })

@@ -14,7 +14,7 @@ use Rattle.audit_rules.specs.declared.settings.AuditInputMode.the-variants as m
 use Rattle.audit_rules.specs.declared.settings.MateRole.{MateRole}
 use Rattle.audit_rules.specs.declared.settings.Settings.{Settings}
 use Rattle.audit_rules.specs.Observing.{MateRead, verdictRefusal, isEligible, mateRefusal, isSearched}
-use Rattle.audit_rules.specs.Fragment.{firstOf}
+use Rattle.audit_rules.specs.Fragment.{firstRefusal}
 use Rattle.checking.specs.Checks.{checkOutcome, ReadChecked, byMode, ifPaired}
 use Rattle.checking.specs.declared.ReadCheck.{ReadCheck}
 use Rattle.checking.specs.declared.ReadCheck.the-variants as checks
@@ -43,7 +43,7 @@ module _ (offset : ℕ) (s : Settings) (read : Read) (right on : Bool) (length-t
 
 module _ (f : MateRead → ℕ) (g : MateRead → Bool) (x y : MateRead) where
   abbrev pub answered : AuditInputMode → Outcome (Bool × Bool)
-  answered m = outcome (firstOf f (byMode m x y)) (g x, ifPaired m (g y))
+  answered m = outcome (firstRefusal f (byMode m x y)) (g x, ifPaired m (g y))
 
   pub first-refused : (n : ℕ) → refused n ≡ outcome (f x) (g x) → (m : AuditInputMode) → refused n ≡ answered m
   first-refused n e m = let k = outcome-number (f x) n (g x) (sym e) in go n (k .0) (k .1) m

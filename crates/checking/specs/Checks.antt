@@ -10,7 +10,7 @@ use Rattle.audit_rules.specs.declared.settings.AuditInputMode.the-variants as m
 use Rattle.audit_rules.specs.declared.settings.MateRole.{MateRole}
 use Rattle.audit_rules.specs.declared.settings.Settings.{Settings}
 use Rattle.audit_rules.specs.Observing.{mateRefusal, isSearched}
-use Rattle.audit_rules.specs.Fragment.{firstOf}
+use Rattle.audit_rules.specs.Fragment.{firstRefusal}
 use Rattle.checking.specs.declared.ReadCheck.{ReadCheck}
 use Rattle.checking.specs.declared.ReadCheck.the-variants as checks
 use Rattle.checking.specs.declared.ReadsCheck.{ReadsCheck}
@@ -44,5 +44,5 @@ ifPaired modes.PairedEnd b = b
 abbrev pub ReadsChecked : ℕ → Settings → Read → Read → ReadsCheck → Type 0
 ReadsChecked offset s first second r =
     (role role′ : MateRole) → checksOutcome r ≡
-    outcome (firstOf (mateRefusal offset s) (byMode (s .mode) (record { role = role; read = first }) (record { role = role′; read = second })))
+    outcome (firstRefusal (mateRefusal offset s) (byMode (s .mode) (record { role = role; read = first }) (record { role = role′; read = second })))
     (isSearched offset s (record { role = role; read = first }), ifPaired (s .mode) (isSearched offset s (record { role = role′; read = second })))

@@ -6,7 +6,7 @@ use mathlib.Core.List.{List, [], _∷_}
 use Prim.Native.Nat.{ℕ}
 use native.Mathlib.Omega.{arith}
 use lib.ListN.{length}
-use Rattle.promises.specs.Refusal.{_orElse_, outcome}
+use Rattle.promises.specs.Refusal.{_orElse_, outcome, ifPassed}
 use Rattle.promises.proofs.Refusing.{outcome-accepted, outcome-number}
 use Rattle.catalogue.specs.Catalogue.{Catalogue, names, inBounds}
 use Rattle.ledger.specs.Booking.{Counters}
@@ -17,7 +17,7 @@ use Rattle.audit_rules.specs.declared.sheet.Sheet.{Sheet}
 use Rattle.audit_rules.specs.Settings.{Held, auditSeed, auditOffset}
 use Rattle.audit_rules.specs.Opening.{openingRefusal}
 use Rattle.audit_rules.specs.Sheet.{sheetOf, booksRefusal, finishRefusal}
-use Rattle.audit_rules.specs.Calls.{callOutcome, sheetAfter}
+use Rattle.audit_rules.specs.Calls.{callOutcome, zeroSheet}
 use Rattle.finishing.specs.Tested.{FinishesTested}
 use Rattle.texts.specs.Writing.{AddsAtMost}
 use Rattle.lines.specs.Lines.{lineRoom, refusalLine}
@@ -46,13 +46,13 @@ module _ (c : Catalogue) (within : inBounds c ≡ true) (h : Held) (opened : ope
   unfolding finishRefusal
   books-decide = ap (λ m. m orElse booksRefusal h) opened
 
-  told : (a : CallAnswer) (sheet : Sheet) → callOutcome a ≡ outcome (booksRefusal h) tt → sheet ≡ sheetAfter (booksRefusal h) h → answerTold a sheet (h .counters) (names c) (c .marks) (length (c .identifierEnds)) ≡ still (running c h) (5 ∷ [])
+  told : (a : CallAnswer) (sheet : Sheet) → callOutcome a ≡ outcome (booksRefusal h) tt → sheet ≡ ifPassed (booksRefusal h) (sheetOf h) zeroSheet → answerTold a sheet (h .counters) (names c) (c .marks) (length (c .identifierEnds)) ≡ still (running c h) (5 ∷ [])
   told (calls.Refused n) sheet e f =
       let w = outcome-number (booksRefusal h) n tt (sym e) in
       sym (finish-refuses c h n (books-decide ∙ w .0) (w .1))
   told calls.Accepted sheet e f =
       let w = outcome-accepted (booksRefusal h) tt tt (sym e) in
-      let g : sheet ≡ sheetOf h = f ∙ ap (λ m. sheetAfter m h) (w .0) in
+      let g : sheet ≡ sheetOf h = f ∙ ap (λ m. ifPassed m (sheetOf h) zeroSheet) (w .0) in
       ap (λ s. sheetTold s (h .counters) (names c) (c .marks) (length (c .identifierEnds))) g ∙ sym (sheet-told c within h) ∙ sym (finish-accepts c h (books-decide ∙ w .0))
 
   -- the lines of a finish are what `catch` writes

@@ -7,7 +7,7 @@ use Prim.Native.Nat.{ℕ, zero, suc}
 use native.Mathlib.Omega.{arith}
 use lib.ListN.{length}
 use borrow.Author.Tests.{not-true, not-false}
-use Rattle.promises.specs.Refusal.{unless, _orElse_, outcome}
+use Rattle.promises.specs.Refusal.{unless, _orElse_, outcome, ifPassed}
 use Rattle.promises.proofs.Refusing.{stands, outcome-refused, outcome-accepted, outcome-number}
 use Rattle.catalogue.specs.Catalogue.{Catalogue, mapped}
 use Rattle.catalogue.specs.Ranking.{rankingOutcome}
@@ -21,7 +21,7 @@ use Rattle.audit_rules.specs.declared.calls.Finish.{Finish}
 use Rattle.audit_rules.specs.Settings.{Held, zeroState}
 use Rattle.audit_rules.specs.Opening.{IndexLent, openingRefusal}
 use Rattle.audit_rules.specs.Sheet.{sheetOf, booksRefusal, finishRefusal}
-use Rattle.audit_rules.specs.Calls.{heldOf, zeroSheet, sheetAfter, callOutcome, Finishes}
+use Rattle.audit_rules.specs.Calls.{heldOf, zeroSheet, callOutcome, Finishes}
 use Rattle.opening.specs.Opens.{OpeningRanked}
 use Rattle.sheets.specs.Agreeing.{booksAgree}
 use Rattle.finishing.specs.Tested.{FinishesTested}
@@ -33,10 +33,10 @@ number-told : (m n : ℕ) → m ≡ n → (n ≡ 0 → ⊥) → callOutcome (cal
 number-told m n e ne = rw e (outcome-refused n tt ne)
 
 -- beside the sheet of the all-zero state
-none-shown : (m n : ℕ) → m ≡ n → (n ≡ 0 → ⊥) → (h : Held) (empty : AuditState) → empty ≡ zeroState → (sheet : Sheet) → sheet ≡ sheetOf (heldOf empty [] [] []) → sheet ≡ sheetAfter m h
+none-shown : (m n : ℕ) → m ≡ n → (n ≡ 0 → ⊥) → (h : Held) (empty : AuditState) → empty ≡ zeroState → (sheet : Sheet) → sheet ≡ sheetOf (heldOf empty [] [] []) → sheet ≡ ifPassed m (sheetOf h) zeroSheet
 none-shown m n e ne h empty is-empty sheet of-empty = of-empty ∙ ap (λ s. sheetOf (heldOf s [] [] [])) is-empty ∙ rw e (go n ne)
   where
-    go : (n : ℕ) → (n ≡ 0 → ⊥) → zeroSheet ≡ sheetAfter n h
+    go : (n : ℕ) → (n ≡ 0 → ⊥) → zeroSheet ≡ ifPassed n (sheetOf h) zeroSheet
     go zero z = absurd (z refl)
     go (suc n) z = refl
 

@@ -3,7 +3,7 @@ use mathlib.Core.Path.{_≡_}
 use mathlib.Core.List.{List, [], _∷_, _++_}
 use Prim.Native.Nat.{ℕ, zero, suc, _*_, _/_}
 use lib.ListN.{length, take, drop}
-use Rattle.promises.specs.Refusal.{unless, _orElse_, Outcome, refused, accepted, outcome}
+use Rattle.promises.specs.Refusal.{unless, _orElse_, Outcome, refused, accepted, outcome, ifPassed}
 use Rattle.catalogue.specs.Catalogue.{Catalogue}
 use Rattle.scan.specs.Entries.{entryCount}
 use Rattle.answers.specs.Answer.{Row}
@@ -11,7 +11,7 @@ use Rattle.rows.specs.Rows.{rowNumbers}
 use Rattle.ledger.specs.Booking.{Counters}
 use Rattle.audit_rules.specs.Settings.{Held}
 use Rattle.audit_rules.specs.Opening.{IndexLent, openingRefusal}
-use Rattle.audit_rules.specs.Fragment.{Fragment, heldAfter}
+use Rattle.audit_rules.specs.Fragment.{Fragment}
 use Rattle.audit_rules.specs.Run.{Call, Answer, answers, after}
 use Rattle.audit_rules.specs.Calls.{callOutcome}
 use Rattle.fragment_lists.specs.Lists.{FragmentLists, fragmentsIn, listsFit}
@@ -39,15 +39,15 @@ refusedRows number zero = []
 refusedRows number (suc n) = rowNumbers (refused number) ++ refusedRows number n
 
 -- the rows of a fragment of n reads
-abbrev pub fragmentRows : ℕ → Outcome (List Row) → List ℕ
-fragmentRows n (refused number) = refusedRows number n
-fragmentRows n (accepted rs) = rowsIn rs
+abbrev pub outcomeRows : ℕ → Outcome (List Row) → List ℕ
+outcomeRows n (refused number) = refusedRows number n
+outcomeRows n (accepted rs) = rowsIn rs
 
 -- the rows of all fragments
 abbrev pub allRows : List Call → List Answer → List ℕ
 allRows [] given = []
 allRows (x ∷ xs) [] = []
-allRows (x ∷ xs) (a ∷ given) = fragmentRows (length (x .fragment .reads)) (a .rows) ++ allRows xs given
+allRows (x ∷ xs) (a ∷ given) = outcomeRows (length (x .fragment .reads)) (a .rows) ++ allRows xs given
 
 -- the shares that they leave
 abbrev pub allShares : List Answer → List ℕ
@@ -55,11 +55,6 @@ allShares [] = []
 allShares (a ∷ given) = a .entries ++ allShares given
 
 -- ---- the call
-
--- a refusal writes nothing
-abbrev pub writtenAfter : ℕ → List ℕ → List ℕ → List ℕ
-writtenAfter zero written buffer = written
-writtenAfter (suc n) written buffer = buffer
 
 module _ (q offset : ℕ) (c : Catalogue) (lent : IndexLent) (h : Held) (l : FragmentLists) where
   -- the opening's checks, then 25
@@ -76,15 +71,16 @@ module _ (q offset : ℕ) (c : Catalogue) (lent : IndexLent) (h : Held) (l : Fra
   abbrev pub listAnswers : List ℕ → List Answer
   listAnswers entries = answers q offset c h (listCalls entries)
 
-  -- state and counters, rows, and entries behind it: what the single calls give one after the other; nothing behind the shares is touched
+  -- state and counters, rows, and entries behind it: what the single calls give one after the other; nothing behind the shares is touched;
+  -- a refusal writes nothing
   abbrev pub listHeld : List ℕ → List ℕ → Held
-  listHeld rows entries = heldAfter (listRefusal rows) (after q offset c h (listCalls entries)) h
+  listHeld rows entries = ifPassed (listRefusal rows) (after q offset c h (listCalls entries)) h
 
   abbrev pub listRows : List ℕ → List ℕ → List ℕ
-  listRows rows entries = writtenAfter (listRefusal rows) (allRows (listCalls entries) (listAnswers entries)) rows
+  listRows rows entries = ifPassed (listRefusal rows) (allRows (listCalls entries) (listAnswers entries)) rows
 
   abbrev pub listEntries : List ℕ → List ℕ → List ℕ
-  listEntries rows entries = writtenAfter (listRefusal rows) (allShares (listAnswers entries) ++ drop (listWidth entries * length (l .ordinals)) entries) entries
+  listEntries rows entries = ifPassed (listRefusal rows) (allShares (listAnswers entries) ++ drop (listWidth entries * length (l .ordinals)) entries) entries
 
   -- the call
   pub record AuditsList (r : FragmentsAudit) (k′ : Counters) (rows entries rows′ entries′ : List ℕ) : Type 0 where

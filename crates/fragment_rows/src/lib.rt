@@ -5,7 +5,7 @@ ghost use lib.ListN.{length};
 ghost use Rattle.promises.specs.Slice.{old, new};
 ghost use Rattle.seeds.specs.Seeds.{placed};
 ghost use Rattle.audit_rules.specs.Calls.{fragmentOutcome};
-ghost use Rattle.fragment_lists.specs.Listed.{refusedRows, fragmentRows};
+ghost use Rattle.fragment_lists.specs.Listed.{refusedRows, outcomeRows};
 use answers::answer::MapAnswer;
 use audit_rules::calls::FragmentAnswer;
 use rows::write_row;
@@ -24,8 +24,8 @@ fn write_refusals(rows: &mut [u64], at: usize, n: usize, number: u64)
 
 // Writes the rows of a fragment of n reads, from the row at a place on.
 pub fn write_fragment(rows: &mut [u64], at: usize, n: usize, answer: FragmentAnswer)
-    requires { ⌜ 8 * at + length (fragmentRows n (fragmentOutcome answer)) ≤ length (now rows) ⌝ }
-    ensures { λ _. ⌜ new rows ≡ placed (8 * at) (fragmentRows n (fragmentOutcome answer)) (old rows) ⌝ }
+    requires { ⌜ 8 * at + length (outcomeRows n (fragmentOutcome answer)) ≤ length (now rows) ⌝ }
+    ensures { λ _. ⌜ new rows ≡ placed (8 * at) (outcomeRows n (fragmentOutcome answer)) (old rows) ⌝ }
 {
     match answer {
         FragmentAnswer::Refused(number) => write_refusals(rows, at, n, number),

@@ -11,7 +11,7 @@ use lib.Seq.{getD-take, take-take}
 use borrow.Author.Tests.{le-leb, lt-leb}
 use Rattle.audit_rules.specs.Observing.{MateRead}
 use Rattle.audit_rules.specs.Fragment.{Fragment}
-use Rattle.audit_rules.specs.Calls.{lentReads, fragmentOf}
+use Rattle.audit_rules.specs.Calls.{fragmentReads, fragmentOf}
 use Rattle.fragment_stream.specs.declared.ReadPlace.{ReadPlace}
 use Rattle.fragment_stream.specs.declared.ReadFound.{ReadFound}
 use Rattle.fragment_stream.specs.declared.ReadFound.the-variants as reads
@@ -62,7 +62,7 @@ module _ (b : List ℕ) (ordinal : ℕ) (p : ReadPlace) (t : ReadTold b 9 (reads
             λ more.
             ap (λ n. readsIn n (drop 9 b ++ more)) e
             ∙ one-told more
-            ∙ ap (λ n. parsed (lentReads n (mateAt b p) (mateAt b p)) (drop (p .end) b ++ more)) (sym e);
+            ∙ ap (λ n. parsed (fragmentReads n (mateAt b p) (mateAt b p)) (drop (p .end) b ++ more)) (sym e);
       }
 
   -- two
@@ -161,7 +161,7 @@ module _ (b : List ℕ) (count ordinal : ℕ) (h : 9 ≤ length b) (ec : count �
         told =
             λ more.
             taken more
-            ∙ held (lentReads count (mateAt b (f .first)) (mateAt b (f .second))) (drop 9 b ++ more) (drop (f .end) b ++ more) (k .told more)
+            ∙ held (fragmentReads count (mateAt b (f .first)) (mateAt b (f .second))) (drop 9 b ++ more) (drop (f .end) b ++ more) (k .told more)
             ∙ ap (λ n. parsed (fragmentOf n count (mateAt b (f .first)) (mateAt b (f .second))) (drop (f .end) b ++ more)) (sym (k .ordinal))
             ∙ ap (λ n. parsed (fragmentOf (f .ordinal) n (mateAt b (f .first)) (mateAt b (f .second))) (drop (f .end) b ++ more)) (sym (k .count));
       },

@@ -5,7 +5,7 @@ use Prim.Native.Nat.{ℕ, _-_, _≤_}
 use lib.ListN.{length, drop}
 use Rattle.lists.specs.Cut.{window}
 use Rattle.audit_rules.specs.Observing.{MateRead}
-use Rattle.audit_rules.specs.Calls.{mateOf, lentReads, fragmentOf}
+use Rattle.audit_rules.specs.Calls.{mateOf, fragmentReads, fragmentOf}
 use Rattle.stream.specs.Operands.{parsed}
 use Rattle.stream.specs.Commands.{readIn, readsIn, fragmentIn}
 use Rattle.stream.specs.Telling.{Read, Refused, Short}
@@ -57,7 +57,7 @@ pub record ReadsFound (bytes : List ℕ) (number reads : ℕ) (h : FragmentHead)
   pub first : Placed bytes (h .first)
   pub second : Placed bytes (h .second)
   pub within : h .end ≤ length bytes
-  pub told : (more : List ℕ) → readsIn reads (drop 9 bytes ++ more) ≡ parsed (lentReads reads (mateAt bytes (h .first)) (mateAt bytes (h .second))) (drop (h .end) bytes ++ more)
+  pub told : (more : List ℕ) → readsIn reads (drop 9 bytes ++ more) ≡ parsed (fragmentReads reads (mateAt bytes (h .first)) (mateAt bytes (h .second))) (drop (h .end) bytes ++ more)
 
 -- the longest two
 abbrev pub longestReads : ℕ

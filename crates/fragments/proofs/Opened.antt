@@ -7,7 +7,7 @@ use Prim.Native.Nat.{ℕ, _≤_}
 use native.Mathlib.Omega.{arith}
 use lib.ListN.{length, take}
 use Rattle.lists.proofs.Cases.{and-true}
-use Rattle.promises.specs.Refusal.{_orElse_, outcome}
+use Rattle.promises.specs.Refusal.{_orElse_, outcome, ifPassed}
 use Rattle.promises.proofs.Refusing.{stands, outcome-refused, outcome-number}
 use Rattle.catalogue.specs.Catalogue.{Catalogue, targets, mapped, suppliedPlaces, maxTargets}
 use Rattle.catalogue.specs.Ranking.{rankingOutcome}
@@ -21,20 +21,20 @@ use Rattle.planning.specs.Answers.{PlanRanked}
 use Rattle.planning.proofs.Planning.{within-buffer, prefix-length, ranked-mapped, lent}
 use Rattle.scan.specs.Entries.{entryCount}
 use Rattle.indexed_mapper.proofs.Mapping.{mappable}
-use Rattle.ledger.specs.Booking.{Counters}
+use Rattle.ledger.specs.Booking.{Counters, CountersFor}
 use Rattle.ledger.specs.Counting as counting
 use Rattle.audit_rules.specs.declared.calls.FragmentAnswer.the-variants as fragments
 use Rattle.audit_rules.specs.declared.calls.FragmentAudit.{FragmentAudit}
 use Rattle.audit_rules.specs.declared.settings.Settings.{Settings}
 use Rattle.audit_rules.specs.Settings.{Held}
 use Rattle.audit_rules.specs.Opening.{IndexLent, wayOf, indexRight, openingRefusal}
-use Rattle.audit_rules.specs.Fragment.{Fragment, entriesLeft, testedRefusal, testedRows, heldAfter, fragmentRefusal, fragmentAccepted, fragmentWritten}
+use Rattle.audit_rules.specs.Fragment.{Fragment, entriesLeft, testedRefusal, testedRows, fragmentRefusal, fragmentAccepted, fragmentWritten}
 use Rattle.audit_rules.specs.Calls.{indexIf, Audits}
 use Rattle.audit_rules.proofs.Opening.{OpeningNumber, Passed, opening-passed, opening-number}
 use Rattle.audit_rules.proofs.Catalogues.{places-ranked}
 use Rattle.audit_rules.proofs.Booked.{refused-holds}
 use Rattle.opening.specs.Opens.{OpeningRanked}
-use Rattle.opening.proofs.Opening.{counted}
+use Rattle.ledger.proofs.Booking.{each-counter}
 use Rattle.opening.proofs.Ranked.{unrefused, planned}
 use Rattle.sighting.specs.Sights.{wayIf}
 use Rattle.tested_fragments.specs.Tested.{Tested, TestedAudited}
@@ -56,8 +56,8 @@ module _ (q offset : ℕ) (c : Catalogue) (indexed : Bool) (ks rs os : List ℕ)
       record {
         observable = record { lent = rows; seed = seed; index = λ on. held on };
         limit = all-passed .limit;
-        counters = record { few = omega (arith, count .0, length-few); placements = refl; singles = count .1 ∙ sym (count .0); multi = count .2 ∙ sym (count .0) };
-        places = subst₂ (λ m l. counting.Ranked m l) (sym (count .0)) (sym (p .ranks n told)) (places-ranked c (all-passed .catalogue));
+        counters = record { few = omega (arith, count .placements, length-few); each = subst (λ m. CountersFor m k) (sym (count .placements)) count };
+        places = subst₂ (λ m l. counting.Ranked m l) (sym (count .placements)) (sym (p .ranks n told)) (places-ranked c (all-passed .catalogue));
       }
     where
       rows : Lent (c .bases) (c .baseEnds) (take n buffer)
@@ -70,8 +70,8 @@ module _ (q offset : ℕ) (c : Catalogue) (indexed : Bool) (ks rs os : List ℕ)
           let u : columnsOf (index q c) ks rs os ≡ true = rw (b .0) at t in
           mappable q (c .bases) (c .baseEnds) (take n buffer) ks rs os rows seed (rw (ranked-mapped q c r buffer plan n told) u) .indexed
 
-      count : (length (k .placements) ≡ length (targets c)) × (length (k .singles) ≡ length (targets c)) × (length (k .multi) ≡ length (targets c))
-      count = counted (length (targets c)) k (all-passed .counters)
+      count : CountersFor (length (targets c)) k
+      count = each-counter (length (targets c)) k (all-passed .counters)
 
       length-few : length (targets c) ≤ 4096
       length-few = let b = bounded c (all-passed .catalogue .bounds) in omega (arith, target-count c (all-passed .catalogue .bounds), b .marked, b .few)
@@ -98,7 +98,7 @@ module _ (q offset : ℕ) (c : Catalogue) (lent : IndexLent) (h : Held) (f : Fra
   call-refused n e ne =
       record {
         answer = outcome-refused n _ ne ∙ ap (λ z. outcome z (testedRows offset (mappedSequences c) (wayOf q lent) (suppliedPlaces c) h f)) (sym all);
-        held = sym (ap (λ z. heldAfter z (fragmentAccepted q offset c lent h f) h) all ∙ refused-holds n ne (fragmentAccepted q offset c lent h f) h);
+        held = sym (ap (λ z. ifPassed z (fragmentAccepted q offset c lent h f) h) all ∙ refused-holds n ne (fragmentAccepted q offset c lent h f) h);
         left = sym (ap (λ z. entriesLeft z (fragmentWritten q offset c lent h f entries) entries) all ∙ untouched n ne (λ z. number .1 (e ∙ z)) (λ z. omega (arith, number .0, e, z)) (fragmentWritten q offset c lent h f entries) entries);
       }
     where
@@ -113,7 +113,7 @@ module _ (q offset : ℕ) (c : Catalogue) (lent : IndexLent) (h : Held) (f : Fra
   call-done e r k entries′ t =
       record {
         answer = t .observed .answer ∙ ap (λ z. outcome z (testedRows offset (mappedSequences c) (wayOf q lent) (suppliedPlaces c) h f)) (sym all);
-        held = t .held ∙ ap (λ z. heldAfter z (fragmentAccepted q offset c lent h f) h) (sym all);
+        held = t .held ∙ ap (λ z. ifPassed z (fragmentAccepted q offset c lent h f) h) (sym all);
         left = t .observed .left ∙ ap (λ z. entriesLeft z (fragmentWritten q offset c lent h f entries) entries) (sym all);
       }
     where

@@ -6,6 +6,7 @@ use Prim.Native.Nat.{ℕ, zero, suc, _+_, _≤_}
 use native.Mathlib.Omega.{arith}
 use lib.ListN.{length, drop, replicate, length-replicate}
 use lib.Seq.{drop-length}
+use Rattle.promises.specs.Refusal.{ifPassed}
 use Rattle.promises.proofs.Refusing.{outcome-refused, outcome-accepted, outcome-number}
 use Rattle.catalogue.specs.Catalogue.{Catalogue, targets, mapped}
 use Rattle.catalogue.specs.Ranking.{rankingOutcome}
@@ -17,11 +18,11 @@ use Rattle.audit_rules.specs.declared.settings.Settings.{Settings}
 use Rattle.audit_rules.specs.declared.settings.AuditState.{AuditState}
 use Rattle.audit_rules.specs.declared.calls.CallAnswer.the-variants as calls
 use Rattle.audit_rules.specs.Settings.{Held, freshState, zeroState}
-use Rattle.audit_rules.specs.Opening.{IndexLent, openingRefusal, opened}
+use Rattle.audit_rules.specs.Opening.{IndexLent, openingRefusal, unopened, started}
 use Rattle.audit_rules.specs.Calls.{Opens}
 use Rattle.audit_rules.proofs.Opening.{opening-passed}
 use Rattle.opening.specs.Opens.{OpeningRanked}
-use Rattle.opening.proofs.Opening.{counted}
+use Rattle.ledger.proofs.Booking.{each-counter}
 
 -- ---- what an opening leaves
 
@@ -35,10 +36,10 @@ module _ (q offset : ℕ) (c : Catalogue) (lent : IndexLent) (s : Settings) (k :
         let w = outcome-number (openingRefusal q offset c lent s k) n (length (mapped c)) (sym (h .answer) ∙ ap rankingOutcome told) in
         record {
           answer = rw (w .0) (outcome-refused n tt (w .1));
-          held = ap₂ (λ x y. held x y) e f ∙ go n (w .1) ∙ ap (λ m. opened m c s k) (sym (w .0));
+          held = ap₂ (λ x y. held x y) e f ∙ go n (w .1) ∙ ap (λ m. ifPassed m (started c s) (unopened k)) (sym (w .0));
         }
       where
-        go : (m : ℕ) → (m ≡ 0 → ⊥) → held zeroState k ≡ opened m c s k
+        go : (m : ℕ) → (m ≡ 0 → ⊥) → held zeroState k ≡ ifPassed m (started c s) (unopened k)
         go zero ne = absurd (ne refl)
         go (suc m) ne = refl
 
@@ -47,11 +48,11 @@ module _ (q offset : ℕ) (c : Catalogue) (lent : IndexLent) (s : Settings) (k :
         → Opens q offset c lent s k (record { answer = calls.Accepted; state = state }) (countersOf ps ss ms)
     opening-done j told state e ps ss ms zp zs zm =
         let w = outcome-accepted (openingRefusal q offset c lent s k) (length (mapped c)) j (sym (h .answer) ∙ ap rankingOutcome told) in
-        let n = counted (length (targets c)) k (opening-passed q offset c lent s k (w .0) .counters) in
+        let n = each-counter (length (targets c)) k (opening-passed q offset c lent s k (w .0) .counters) in
         record {
           answer = rw (w .0);
           held =
-              ap₂ (λ x y. held x y) e (zeros (length (targets c)) (n .0) (n .1) (n .2)) ∙ ap (λ m. opened m c s k) (sym (w .0));
+              ap₂ (λ x y. held x y) e (zeros (length (targets c)) (n .placements) (n .singles) (n .multi)) ∙ ap (λ m. ifPassed m (started c s) (unopened k)) (sym (w .0));
         }
       where
         zeros : (n : ℕ) → length (k .placements) ≡ n → length (k .singles) ≡ n → length (k .multi) ≡ n → countersOf ps ss ms ≡ emptyCounters n

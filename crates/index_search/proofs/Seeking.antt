@@ -19,11 +19,11 @@ use Rattle.bases.proofs.Turning.{length-oriented}
 use Rattle.columns.specs.Posting.{Posting}
 use Rattle.columns.proofs.Rows.{none}
 use Rattle.seeds.specs.Key.{keyOf}
-use Rattle.seeds.specs.Seeds.{seeds, keysOf}
+use Rattle.seeds.specs.Seeds.{seeds}
 use Rattle.seeds.specs.Window.{starts}
 use Rattle.catalogue.specs.Catalogue.{maxBases}
 use Rattle.seeds.proofs.Storing.{length-seeds}
-use Rattle.index.specs.Index.{allSeeds, indexOf, hits, rankedSequences, maxStarts, Lent, Indexed}
+use Rattle.index.specs.Index.{allSeeds, indexOf, rankedSequences, maxStarts, Lent, Indexed}
 use Rattle.index.proofs.Indexing.{index-∈-seed, length-index}
 use Rattle.index.proofs.Sequencing.{ranked-many, ranked-length}
 use Rattle.index.proofs.Hits.{range-hits}

@@ -25,10 +25,10 @@ use Rattle.index.specs.Index.{mappedSequences}
 use Rattle.places.specs.Place.{Place, place, before, Fits, matches, groups}
 use Rattle.places.proofs.Placing.{groups-∈, ∈-groups, groups-ascending}
 use Rattle.scan.specs.Entries.{entryOf, entriesOf}
-use Rattle.indexed_mapper.specs.Match.{Match, placeOf, rankOf, byRank, matchEntries}
+use Rattle.indexed_mapper.specs.Match.{Match, placeIn, rankOf, byRank, matchEntries}
 
 -- in a list that ascends each number stands at one place
-place-at : (less : ℕ → ℕ → Bool) → StrictOrder less → (xs : List ℕ) → Ascending less xs → (r : ℕ) → r < length xs → placeOf (getD xs r 0) xs ≡ r
+place-at : (less : ℕ → ℕ → Bool) → StrictOrder less → (xs : List ℕ) → Ascending less xs → (r : ℕ) → r < length xs → placeIn (getD xs r 0) xs ≡ r
 place-at less o [] a r h = absurd (omega arith)
 place-at less o (x ∷ xs) a zero h = rw (eq-eqb x x refl)
 place-at less o (x ∷ xs) a (suc r) h =

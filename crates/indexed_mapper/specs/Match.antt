@@ -28,13 +28,13 @@ pub record Match (c : Catalogue) (read : List ℕ) (supplied start strand : ℕ)
   pub equal : windowOf (target .bases) start (length read) ≡ oriented strand (folded read)
 
 -- how many numbers stand before the first x
-abbrev pub placeOf : ℕ → List ℕ → ℕ
-placeOf x [] = 0
-placeOf x (y ∷ ys) = cond (eqb x y) 0 (suc (placeOf x ys))
+abbrev pub placeIn : ℕ → List ℕ → ℕ
+placeIn x [] = 0
+placeIn x (y ∷ ys) = cond (eqb x y) 0 (suc (placeIn x ys))
 
 -- the rank of the target supplied at a place
 abbrev pub rankOf : Catalogue → ℕ → ℕ
-rankOf c supplied = placeOf supplied (suppliedPlaces c)
+rankOf c supplied = placeIn supplied (suppliedPlaces c)
 
 -- (supplied place, start, strand), by rank, start, strand
 abbrev pub byRank : Catalogue → Triple → Triple → Bool

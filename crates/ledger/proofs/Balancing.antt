@@ -17,38 +17,38 @@ use Rattle.lists.proofs.Every.{every-∈, ∈-every}
 use Rattle.lists.proofs.Sum.{sum-same, sum-parts}
 use Rattle.ledger.specs.Booking.{Booked, Books, kept, maxCounter, countable}
 use Rattle.ledger.specs.Balance.{agree, countOf, roleAgrees, countersAgree, balanced}
-use Rattle.ledger.specs.Counting.{readsIn, readsOf, Counts}
+use Rattle.ledger.specs.Counting.{readsInState, readsOf, Counts}
 use Rattle.ledger.proofs.Growing.{length-filter-append}
 
 -- ---- the reads of a role by state
 
 module _ (role : ℕ) where
   -- a read is counted in its own state, by its role, and in no other
-  reads-here : (b : Booked) (s : ℕ) → b .state ≡ s → readsIn role s (b ∷ []) ≡ readsOf role (b ∷ [])
+  reads-here : (b : Booked) (s : ℕ) → b .state ≡ s → readsInState role s (b ∷ []) ≡ readsOf role (b ∷ [])
   reads-here b s e = rw (eq-eqb (b .state) s e) (by-test (eqb (b .role) role) (λ f. rw f) (λ f. rw f))
 
-  reads-elsewhere : (b : Booked) (s : ℕ) → (b .state ≡ s → ⊥) → readsIn role s (b ∷ []) ≡ 0
+  reads-elsewhere : (b : Booked) (s : ℕ) → (b .state ≡ s → ⊥) → readsInState role s (b ∷ []) ≡ 0
   reads-elsewhere b s h = rw (ne-eqb (b .state) s h) (by-test (eqb (b .role) role) (λ f. rw f) (λ f. rw f))
 
-  sum-none : (b : Booked) (states : List ℕ) → (b .state ∈ states → ⊥) → sum (map (λ s. readsIn role s (b ∷ [])) states) ≡ 0
+  sum-none : (b : Booked) (states : List ℕ) → (b .state ∈ states → ⊥) → sum (map (λ s. readsInState role s (b ∷ [])) states) ≡ 0
   sum-none b [] h = refl
   sum-none b (s ∷ states) h = omega (arith, reads-elsewhere b s (λ e. h (inl e)), sum-none b states (λ m. h (inr m)))
 
-  sum-one : (b : Booked) (states : List ℕ) → Distinct states → b .state ∈ states → sum (map (λ s. readsIn role s (b ∷ [])) states) ≡ readsOf role (b ∷ [])
+  sum-one : (b : Booked) (states : List ℕ) → Distinct states → b .state ∈ states → sum (map (λ s. readsInState role s (b ∷ [])) states) ≡ readsOf role (b ∷ [])
   sum-one b (s ∷ states) d (inl e) = omega (arith, reads-here b s e, sum-none b states (λ m. d .0 (rw (← e) m)))
   sum-one b (s ∷ states) d (inr m) = omega (arith, reads-elsewhere b s (λ e. d .0 (rw (← e) m)), sum-one b states (d .1) m)
 
-  sum-empty : (states : List ℕ) → sum (map (λ s. readsIn role s []) states) ≡ 0
+  sum-empty : (states : List ℕ) → sum (map (λ s. readsInState role s []) states) ≡ 0
   sum-empty [] = refl
   sum-empty (s ∷ states) = omega (arith, sum-empty states)
 
   -- the reads of a role are those of its states
-  pub states-sum : (states : List ℕ) → Distinct states → (bs : List Booked) → ((b : Booked) → b ∈ bs → b .state ∈ states) → sum (map (λ s. readsIn role s bs) states) ≡ readsOf role bs
+  pub states-sum : (states : List ℕ) → Distinct states → (bs : List Booked) → ((b : Booked) → b ∈ bs → b .state ∈ states) → sum (map (λ s. readsInState role s bs) states) ≡ readsOf role bs
   states-sum states d [] h = sum-empty states
   states-sum states d (b ∷ bs) h =
       omega (
         arith,
-        sum-parts (λ s. readsIn role s (b ∷ bs)) (λ s. readsIn role s (b ∷ [])) (λ s. readsIn role s bs) states
+        sum-parts (λ s. readsInState role s (b ∷ bs)) (λ s. readsInState role s (b ∷ [])) (λ s. readsInState role s bs) states
             (λ s m. length-filter-append (λ (c : Booked). eqb (c .role) role && eqb (c .state) s) (b ∷ []) bs),
         length-filter-append (λ (c : Booked). eqb (c .role) role) (b ∷ []) bs,
         sum-one b states d (h b (inl refl)),
@@ -90,7 +90,7 @@ module _ (n : ℕ) (ranked : List ℕ) (bs : List Booked) (books : Books) (k : C
   role-agrees : (states : List ℕ) → Distinct states → ((s : ℕ) → s ∈ states → s < 6) → ((b : Booked) → b ∈ bs → b .state ∈ states) → (role : ℕ) → role < 3 → role < length (books .ledger .reads) → roleAgrees states (books .ledger) role ≡ true
   role-agrees states d hs hb role h l =
       agrees (map (countOf (books .ledger .table) role) states) (getD (books .ledger .reads) role 0)
-      (sum-same (countOf (books .ledger .table) role) (λ s. readsIn role s bs) states (λ s m. k .states role s h (hs s m)) ∙ states-sum role states d bs hb ∙ sym (k .reads role h))
+      (sum-same (countOf (books .ledger .table) role) (λ s. readsInState role s bs) states (λ s m. k .states role s h (hs s m)) ∙ states-sum role states d bs hb ∙ sym (k .reads role h))
       (reads-within books c role l)
 
   counters-agree : countersAgree books ≡ true

@@ -1,12 +1,23 @@
 -- Reads booked in two parts; booking keeps the lengths of what is kept.
 -- Assumes nothing.
 use mathlib.Core.Path.{_≡_, refl}
+use mathlib.Core.Bool.{true, _&&_}
 use mathlib.Core.List.{List, [], _∷_, _++_}
 use Prim.Native.Nat.{ℕ}
 use native.Mathlib.Omega.{arith}
 use lib.ListN.{length, length-set}
+use borrow.Author.Tests.{eqb-true}
+use lib.Dec.{eqb}
+use Rattle.lists.proofs.Cases.{and-true}
 use Rattle.lists.proofs.Raised.{length-raisedAt}
-use Rattle.ledger.specs.Booking.{Booked, Books, targetsOf, singleTargets, multiTargets, bookedOne, bookedAll}
+use Rattle.ledger.specs.Booking.{Booked, Counters, Books, countersFor, CountersFor, targetsOf, singleTargets, multiTargets, bookedOne, bookedAll}
+
+-- counters that pass the test
+pub each-counter : (n : ℕ) (k : Counters) → countersFor n k ≡ true → CountersFor n k
+each-counter n k t =
+    let u = and-true (eqb (length (k .placements)) n && eqb (length (k .singles)) n) (eqb (length (k .multi)) n) t in
+    let v = and-true (eqb (length (k .placements)) n) (eqb (length (k .singles)) n) (u .0) in
+    record { placements = eqb-true (length (k .placements)) n (v .0); singles = eqb-true (length (k .singles)) n (v .1); multi = eqb-true (length (k .multi)) n (u .1) }
 
 -- the first reads, then the others
 pub booked-append : (ranked : List ℕ) (bs ds : List Booked) (books : Books) → bookedAll ranked (bs ++ ds) books ≡ bookedAll ranked ds (bookedAll ranked bs books)

@@ -20,7 +20,7 @@ use Rattle.lists.proofs.Sum.{sum-raisedAt}
 use Rattle.places.specs.Place.{Place}
 use Rattle.ledger.specs.Booking.{Booked, Books, cell, targetsOf, singleTargets, multiTargets, bookedOne, bookedAll}
 use Rattle.ledger.specs.Balance.{countOf}
-use Rattle.ledger.specs.Counting.{readsIn, readsOf, anyIndeterminate, groupsOn, allGroups, liesOn, placementsOn, singlesOn, multiOn, Bookable, Ranked}
+use Rattle.ledger.specs.Counting.{readsInState, readsOf, anyIndeterminate, groupsOn, allGroups, liesOn, placementsOn, singlesOn, multiOn, Bookable, Ranked}
 use Rattle.ledger.proofs.Targets.{single-times, multi-times, targets-∈, single-∈, multi-∈}
 use Rattle.ledger.proofs.Booking.{one-lengths}
 
@@ -34,7 +34,7 @@ pub record Sized (n : ℕ) (books : Books) : Type 0 where
 
 -- what the reads add to each number
 pub record Grown (n : ℕ) (ranked : List ℕ) (bs : List Booked) (books after : Books) : Type 0 where
-  pub states : (role state : ℕ) → role < 3 → state < 6 → countOf (after .ledger .table) role state ≡ countOf (books .ledger .table) role state + readsIn role state bs
+  pub states : (role state : ℕ) → role < 3 → state < 6 → countOf (after .ledger .table) role state ≡ countOf (books .ledger .table) role state + readsInState role state bs
   pub reads : (role : ℕ) → role < 3 → getD (after .ledger .reads) role 0 ≡ getD (books .ledger .reads) role 0 + readsOf role bs
   pub placements : (t : ℕ) → t < n → getD (after .counters .placements) t 0 ≡ getD (books .counters .placements) t 0 + placementsOn ranked t bs
   pub singles : (t : ℕ) → t < n → getD (after .counters .singles) t 0 ≡ getD (books .counters .singles) t 0 + singlesOn ranked t bs
@@ -65,7 +65,7 @@ module _ (n : ℕ) (ranked : List ℕ) (r : Ranked n ranked) (b : Booked) (k : B
   of-multi : (t : ℕ) → t ∈ multiTargets (targetsOf ranked (b .groups)) → t ∈ ranked
   of-multi t m = of-read t (multi-∈ t (targetsOf ranked (b .groups)) m)
 
-  one-states : (role state : ℕ) → role < 3 → state < 6 → countOf (bookedOne ranked b books .ledger .table) role state ≡ countOf (books .ledger .table) role state + readsIn role state (b ∷ [])
+  one-states : (role state : ℕ) → role < 3 → state < 6 → countOf (bookedOne ranked b books .ledger .table) role state ≡ countOf (books .ledger .table) role state + readsInState role state (b ∷ [])
   one-states role state hr hs =
       added _ (books .ledger .table) (cell role state) b (eqb (b .role) role && eqb (b .state) state) (omega (arith, s .table))
       (λ e. let f = and-true (eqb (b .role) role) (eqb (b .state) state) e in omega (arith, eqb-true (b .role) role (f .0), eqb-true (b .state) state (f .1)))

@@ -1,5 +1,6 @@
 -- What an audit keeps of its reads, and how one is booked (REFERENCE.md, "Booking").
-use mathlib.Core.Bool.{Bool, false, not, cond, _||_}
+use mathlib.Core.Path.{_≡_}
+use mathlib.Core.Bool.{Bool, false, not, cond, _&&_, _||_}
 use mathlib.Core.List.{List, [], _∷_, _++_, map}
 use Prim.Native.Nat.{ℕ, _+_, _*_}
 use lib.ListN.{length, getD, replicate}
@@ -24,6 +25,16 @@ pub record Counters : Type 0 where
 
 abbrev pub countersOf : List ℕ → List ℕ → List ℕ → Counters
 countersOf placements singles multi = record { placements = placements; singles = singles; multi = multi }
+
+-- one counter of each kind for each of n targets, as a test
+abbrev pub countersFor : ℕ → Counters → Bool
+countersFor n k = eqb (length (k .placements)) n && eqb (length (k .singles)) n && eqb (length (k .multi)) n
+
+-- and as what is known
+pub record CountersFor (n : ℕ) (k : Counters) : Type 0 where
+  pub placements : length (k .placements) ≡ n
+  pub singles : length (k .singles) ≡ n
+  pub multi : length (k .multi) ≡ n
 
 -- those that the slices of a call hold when it is made
 abbrev pub lentCounters : Slice → Slice → Slice → Counters

@@ -15,8 +15,8 @@ use Rattle.ledger.specs.Balance.{countOf}
 -- ---- reads
 
 -- the reads of a role and a state
-abbrev pub readsIn : ℕ → ℕ → List Booked → ℕ
-readsIn role state bs = length (filter (λ (b : Booked). eqb (b .role) role && eqb (b .state) state) bs)
+abbrev pub readsInState : ℕ → ℕ → List Booked → ℕ
+readsInState role state bs = length (filter (λ (b : Booked). eqb (b .role) role && eqb (b .state) state) bs)
 
 -- the reads of a role
 abbrev pub readsOf : ℕ → List Booked → ℕ
@@ -69,7 +69,7 @@ pub record Ranked (n : ℕ) (ranked : List ℕ) : Type 0 where
 -- the books of n targets count the reads: by role and state; by role; on each target its placements, singles and multi, none on a target
 -- without a rank; the totals are sums over the targets; and whether a read was indeterminate
 pub record Counts (n : ℕ) (ranked : List ℕ) (bs : List Booked) (books : Books) : Type 0 where
-  pub states : (role state : ℕ) → role < 3 → state < 6 → countOf (books .ledger .table) role state ≡ readsIn role state bs
+  pub states : (role state : ℕ) → role < 3 → state < 6 → countOf (books .ledger .table) role state ≡ readsInState role state bs
   pub reads : (role : ℕ) → role < 3 → getD (books .ledger .reads) role 0 ≡ readsOf role bs
   pub placements : (t : ℕ) → t < n → getD (books .counters .placements) t 0 ≡ placementsOn ranked t bs
   pub singles : (t : ℕ) → t < n → getD (books .counters .singles) t 0 ≡ singlesOn ranked t bs

@@ -12,11 +12,9 @@ use lib.ListN.{length, getD, take, drop}
 use borrow.Rule.Slice.PartMut.{putMid, post-is}
 use Rattle.lists.specs.Cut.{window, cut}
 use Rattle.lists.proofs.Cut.{length-window}
-use Rattle.promises.specs.Refusal.{outcome}
 use Rattle.seeds.specs.Seeds.{placed}
 use Rattle.index_search.specs.Work.{Way}
 use Rattle.ledger.specs.Booking.{Counters}
-use Rattle.audit_rules.specs.declared.calls.FragmentAnswer.{FragmentAnswer}
 use Rattle.audit_rules.specs.declared.calls.FragmentAudit.{FragmentAudit}
 use Rattle.audit_rules.specs.declared.settings.MateRole.{MateRole}
 use Rattle.audit_rules.specs.Settings.{Held}
@@ -27,7 +25,7 @@ use Rattle.audit_rules.specs.Calls.{mateOf, fragmentOf, fragmentOutcome}
 use Rattle.audit_codes.specs.Codes.{roleOf, isSet}
 use Rattle.tested_fragments.specs.Tested.{TestedAudited}
 use Rattle.fragment_lists.specs.Lists.{ReadLists, readAt}
-use Rattle.fragment_lists.specs.Listed.{fragmentRows}
+use Rattle.fragment_lists.specs.Listed.{outcomeRows}
 use Rattle.listed_fragments.specs.Listed.{callAt, FragmentListed}
 use Rattle.listed_fragments.proofs.Mates.{length-reads, two-stand}
 use Rattle.listed_fragments.proofs.Shares.{length-told, length-share}
@@ -75,19 +73,19 @@ module _ (offset : ℕ) (ss : List (List ℕ)) (way : Way) (ranked : List ℕ) (
       two-stand offset ss way ranked h l ordinal at n a k (window entries from width) part (rw (← one, ← two) (subst (λ m. TestedAudited offset ss way ranked h (fragmentOf ordinal n first second) a k (window entries from m) part) gap audited))
 
   -- its rows have room
-  pub rows-room : 8 * (at + n) ≤ length rows → 8 * at + length (fragmentRows n (fragmentOutcome (a .answer))) ≤ length rows
+  pub rows-room : 8 * (at + n) ≤ length rows → 8 * at + length (outcomeRows n (fragmentOutcome (a .answer))) ≤ length rows
   rows-room h′ =
-      let e : length (fragmentRows n (fragmentOutcome (a .answer))) ≡ 8 * length (call .fragment .reads) =
-      ap (λ m. length (fragmentRows m (fragmentOutcome (a .answer)))) (sym (length-reads l at n))
-      ∙ ap (λ o. length (fragmentRows (length (call .fragment .reads)) o)) (stood .observed .answer) ∙ length-told offset ss way ranked h call in
+      let e : length (outcomeRows n (fragmentOutcome (a .answer))) ≡ 8 * length (call .fragment .reads) =
+      ap (λ m. length (outcomeRows m (fragmentOutcome (a .answer)))) (sym (length-reads l at n))
+      ∙ ap (λ o. length (outcomeRows (length (call .fragment .reads)) o)) (stood .observed .answer) ∙ length-told offset ss way ranked h call in
       omega (arith, e, length-reads l at n)
 
-  pub fragment-listed : (rows′ : List ℕ) → rows′ ≡ placed (8 * at) (fragmentRows n (fragmentOutcome (a .answer))) rows
+  pub fragment-listed : (rows′ : List ℕ) → rows′ ≡ placed (8 * at) (outcomeRows n (fragmentOutcome (a .answer))) rows
       → FragmentListed offset ss way ranked h call from at (a .state) k rows entries rows′ (putMid from (from + width - from) entries part)
   fragment-listed rows′ told =
       record {
         held = stood .held;
-        told = told ∙ ap (λ m. placed (8 * at) (fragmentRows m (fragmentOutcome (a .answer))) rows) (sym (length-reads l at n)) ∙ ap (λ o. placed (8 * at) (fragmentRows (length (call .fragment .reads)) o) rows) (stood .observed .answer);
+        told = told ∙ ap (λ m. placed (8 * at) (outcomeRows m (fragmentOutcome (a .answer))) rows) (sym (length-reads l at n)) ∙ ap (λ o. placed (8 * at) (outcomeRows (length (call .fragment .reads)) o) rows) (stood .observed .answer);
         left = ap (λ z. take from entries ++ (part ++ z)) (post-is from (from + width) entries (omega arith)) ∙ sym (append-assoc (take from entries) part (drop (from + width) entries)) ∙ ap (λ m. take from entries ++ part ++ drop m entries) whole ∙ ap (λ p. placed from p entries) (stood .observed .left);
       }
     where

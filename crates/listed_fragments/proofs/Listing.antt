@@ -19,7 +19,7 @@ use Rattle.audit_rules.specs.Settings.{Held}
 use Rattle.audit_rules.specs.Opening.{IndexLent}
 use Rattle.audit_rules.specs.Run.{Call}
 use Rattle.fragment_lists.specs.Lists.{ReadLists, fragmentsFrom}
-use Rattle.fragment_lists.specs.Listed.{callsOf, fragmentRows, allRows, allShares}
+use Rattle.fragment_lists.specs.Listed.{callsOf, outcomeRows, allRows, allShares}
 use Rattle.listed_fragments.specs.Listed.{callAt, testedAnswer, testedAnswers, testedAfter, FragmentListed, ListAudited}
 use Rattle.listed_fragments.proofs.Mates.{length-reads}
 use Rattle.listed_fragments.proofs.Shares.{Alike, length-told, length-share, next-alike, take-placed, drop-placed}
@@ -89,7 +89,7 @@ module _ (offset : ℕ) (ss : List (List ℕ)) (way : Way) (ranked : List ℕ) (
           h′ = record { state = state; counters = k }
 
           abbrev fragment-rows : List ℕ
-          fragment-rows = fragmentRows (length (call .fragment .reads)) (testedAnswer offset ss way ranked h call .rows)
+          fragment-rows = outcomeRows (length (call .fragment .reads)) (testedAnswer offset ss way ranked h call .rows)
 
           abbrev share : List ℕ
           share = testedAnswer offset ss way ranked h call .entries

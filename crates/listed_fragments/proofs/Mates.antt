@@ -8,9 +8,8 @@ use native.Mathlib.Omega.{arith}
 use native.Mathlib.Numerals.{add-one}
 use lib.ListN.{length, length-map, length-replicate}
 use Rattle.lists.proofs.Cases.{by-test}
-use Rattle.lists.specs.Same.{same}
 use Rattle.lists.proofs.Same.{same-true}
-use Rattle.promises.specs.Refusal.{unless, _orElse_, outcome}
+use Rattle.promises.specs.Refusal.{unless, _orElse_, outcome, ifPassed}
 use Rattle.promises.proofs.Refusing.{outcome-refused}
 use Rattle.scan.specs.Entries.{entryCount}
 use Rattle.index_search.specs.Work.{Way}
@@ -20,10 +19,10 @@ use Rattle.audit_rules.specs.declared.settings.AuditInputMode.{AuditInputMode}
 use Rattle.audit_rules.specs.declared.settings.AuditInputMode.the-variants as modes
 use Rattle.audit_rules.specs.Settings.{Held, roleNumber, rolesOf}
 use Rattle.audit_rules.specs.Observing.{MateRead}
-use Rattle.audit_rules.specs.Fragment.{Fragment, inOrder, rolesRight, entriesLeft, testedRefusal, testedRows, testedAccepted, testedWritten, heldAfter}
-use Rattle.audit_rules.specs.Calls.{lentReads, fragmentOf}
+use Rattle.audit_rules.specs.Fragment.{Fragment, inOrder, rolesRight, entriesLeft, testedRefusal, testedRows, testedAccepted, testedWritten}
+use Rattle.audit_rules.specs.Calls.{fragmentReads, fragmentOf}
 use Rattle.audit_rules.proofs.Booked.{refused-holds}
-use Rattle.tested_fragments.specs.Tested.{TestedObserved, TestedAudited}
+use Rattle.tested_fragments.specs.Tested.{TestedAudited}
 use Rattle.tested_fragments.proofs.Chain.{untouched}
 use Rattle.fragment_lists.specs.Lists.{ReadLists, readAt, readsFrom}
 
@@ -31,7 +30,7 @@ pub length-reads : (l : ReadLists) (at n : ℕ) → length (readsFrom l at n) �
 length-reads l at zero = refl
 length-reads l at (suc n) = ap suc (length-reads l (suc at) n)
 
-length-lent : (n : ℕ) (first second : MateRead) → length (lentReads n first second) ≡ n
+length-lent : (n : ℕ) (first second : MateRead) → length (fragmentReads n first second) ≡ n
 length-lent zero first second = refl
 length-lent (suc n) first second = ap suc (length-replicate n second)
 
@@ -80,8 +79,8 @@ module _ (offset : ℕ) (ss : List (List ℕ)) (way : Way) (ranked : List ℕ) (
                     ∙ sym (untouched n nonzero (other .0) (other .1) (testedWritten offset ss way ranked h f′ b) b) ∙ ap (λ z. entriesLeft z (testedWritten offset ss way ranked h f′ b) b) (sym e′);
               };
           held =
-              t .held ∙ ap (λ z. heldAfter z (testedAccepted offset ss way ranked h f) h) e ∙ refused-holds n nonzero (testedAccepted offset ss way ranked h f) h
-              ∙ sym (refused-holds n nonzero (testedAccepted offset ss way ranked h f′) h) ∙ ap (λ z. heldAfter z (testedAccepted offset ss way ranked h f′) h) (sym e′);
+              t .held ∙ ap (λ z. ifPassed z (testedAccepted offset ss way ranked h f) h) e ∙ refused-holds n nonzero (testedAccepted offset ss way ranked h f) h
+              ∙ sym (refused-holds n nonzero (testedAccepted offset ss way ranked h f′) h) ∙ ap (λ z. ifPassed z (testedAccepted offset ss way ranked h f′) h) (sym e′);
         }
 
   -- ---- so the first two of a list stand for its reads

@@ -8,7 +8,7 @@ use native.Mathlib.Omega.{arith}
 use lib.ListN.{length, take, drop, length-append, length-map}
 use lib.Dec.{eqb}
 use lib.Seq.{take-at, drop-at, length-take-le}
-use Rattle.promises.specs.Refusal.{outcome}
+use Rattle.promises.specs.Refusal.{outcome, ifPassed}
 use Rattle.seeds.specs.Seeds.{placed}
 use Rattle.seeds.proofs.Storing.{length-placed}
 use Rattle.scan.specs.Entries.{entryCount, cleared}
@@ -19,15 +19,15 @@ use Rattle.answers.proofs.Concluding.{length-cleared}
 use Rattle.ledger.specs.Counting.{Ranked}
 use Rattle.ledger.proofs.Booking.{booked-lengths}
 use Rattle.audit_rules.specs.declared.settings.Settings.{Settings}
-use Rattle.audit_rules.specs.Settings.{Held, booksOf}
-use Rattle.audit_rules.specs.Observing.{MateRead, mateRow}
-use Rattle.audit_rules.specs.Fragment.{Fragment, entriesLeft, testedBooked, testedRefusal, testedRows, testedAccepted, testedWritten, heldAfter}
+use Rattle.audit_rules.specs.Settings.{Held, heldBooks}
+use Rattle.audit_rules.specs.Observing.{mateRow}
+use Rattle.audit_rules.specs.Fragment.{entriesLeft, testedBooked, testedRefusal, testedRows, testedAccepted, testedWritten}
 use Rattle.audit_rules.specs.Run.{Call}
 use Rattle.audit_rules.proofs.Checking.{tested-checked}
 use Rattle.audit_rules.proofs.Parts.{length-written}
 use Rattle.sighting.specs.Sights.{Observable}
 use Rattle.tested_fragments.specs.Tested.{Tested}
-use Rattle.fragment_lists.specs.Listed.{rowsIn, refusedRows, fragmentRows}
+use Rattle.fragment_lists.specs.Listed.{rowsIn, refusedRows, outcomeRows}
 use Rattle.listed_fragments.specs.Listed.{testedAnswer, testedNext}
 
 -- ---- rows
@@ -57,7 +57,7 @@ pub record Alike (h h′ : Held) : Type 0 where
   pub singles : length (h′ .counters .singles) ≡ length (h .counters .singles)
   pub multi : length (h′ .counters .multi) ≡ length (h .counters .multi)
 
-held-alike : (n : ℕ) (booked h : Held) → Alike h booked → Alike h (heldAfter n booked h)
+held-alike : (n : ℕ) (booked h : Held) → Alike h booked → Alike h (ifPassed n booked h)
 held-alike zero booked h a = a
 held-alike (suc n) booked h a = record { settings = refl; placements = refl; singles = refl; multi = refl }
 
@@ -66,10 +66,10 @@ module _ (offset : ℕ) (ss : List (List ℕ)) (way : Way) (ranked : List ℕ) (
   refusal = testedRefusal offset ss way ranked h (x .fragment) (entryCount (x .entries))
 
   -- eight numbers for each read
-  pub length-told : length (fragmentRows (length (x .fragment .reads)) (testedAnswer offset ss way ranked h x .rows)) ≡ 8 * length (x .fragment .reads)
+  pub length-told : length (outcomeRows (length (x .fragment .reads)) (testedAnswer offset ss way ranked h x .rows)) ≡ 8 * length (x .fragment .reads)
   length-told = go refusal
     where
-      go : (n : ℕ) → length (fragmentRows (length (x .fragment .reads)) (outcome n (testedRows offset ss way ranked h (x .fragment)))) ≡ 8 * length (x .fragment .reads)
+      go : (n : ℕ) → length (outcomeRows (length (x .fragment .reads)) (outcome n (testedRows offset ss way ranked h (x .fragment)))) ≡ 8 * length (x .fragment .reads)
       go zero = length-rows-in (testedRows offset ss way ranked h (x .fragment)) ∙ ap (λ n. 8 * n) (length-map (x .fragment .reads) (mateRow offset (h .state .settings) ss way))
       go (suc n) = length-refused (suc n) (length (x .fragment .reads))
 
@@ -82,7 +82,7 @@ module _ (offset : ℕ) (ss : List (List ℕ)) (way : Way) (ranked : List ℕ) (
 
   pub next-alike : Alike h (testedNext offset ss way ranked h x)
   next-alike =
-      let l = booked-lengths ranked (testedBooked offset ss way ranked h (x .fragment)) (booksOf h) in
+      let l = booked-lengths ranked (testedBooked offset ss way ranked h (x .fragment)) (heldBooks h) in
       held-alike refusal (testedAccepted offset ss way ranked h (x .fragment)) h (record { settings = refl; placements = l .placements; singles = l .singles; multi = l .multi })
 
 -- ---- a list behind the front of a buffer
@@ -104,6 +104,6 @@ tested-alike indexed q bases ends ranked ks rs os h h′ a t =
     record {
       observable = subst (λ (s : Settings). Observable (indexed && s .remap) q bases ends ranked ks rs os) (sym (a .settings)) (t .observable);
       limit = ap (λ (s : Settings). limitRight (s .limit)) (a .settings) ∙ t .limit;
-      counters = record { few = omega (arith, a .placements, t .counters .few); placements = refl; singles = omega (arith, a .singles, a .placements, t .counters .singles); multi = omega (arith, a .multi, a .placements, t .counters .multi) };
+      counters = record { few = omega (arith, a .placements, t .counters .few); each = record { placements = refl; singles = omega (arith, a .singles, a .placements, t .counters .each .singles); multi = omega (arith, a .multi, a .placements, t .counters .each .multi) } };
       places = subst (λ n. Ranked n ranked) (sym (a .placements)) (t .places);
     }

@@ -4,7 +4,7 @@ use mathlib.Core.List.{List, [], _∷_, _++_}
 use Prim.Native.Nat.{ℕ, _+_, _*_, _≤_}
 use lib.ListN.{length, drop}
 use Rattle.lists.specs.Sum.{sum}
-use Rattle.promises.specs.Refusal.{outcome}
+use Rattle.promises.specs.Refusal.{outcome, ifPassed}
 use Rattle.names.specs.Lent.{EndsRight}
 use Rattle.seeds.specs.Seeds.{placed}
 use Rattle.scan.specs.Entries.{entryCount}
@@ -13,10 +13,10 @@ use Rattle.ledger.specs.Booking.{Counters}
 use Rattle.audit_rules.specs.declared.settings.AuditState.{AuditState}
 use Rattle.audit_rules.specs.Settings.{Held}
 use Rattle.audit_rules.specs.Opening.{IndexLent}
-use Rattle.audit_rules.specs.Fragment.{entriesLeft, testedRefusal, testedRows, testedAccepted, testedWritten, heldAfter}
+use Rattle.audit_rules.specs.Fragment.{entriesLeft, testedRefusal, testedRows, testedAccepted, testedWritten}
 use Rattle.audit_rules.specs.Run.{Call, Answer}
 use Rattle.fragment_lists.specs.Lists.{ReadLists, FragmentLists, readsFrom}
-use Rattle.fragment_lists.specs.Listed.{fragmentRows, allRows, allShares}
+use Rattle.fragment_lists.specs.Listed.{outcomeRows, allRows, allShares}
 
 -- reads whose ends are right
 pub record ReadsLent (l : ReadLists) : Type 0 where
@@ -46,7 +46,7 @@ module _ (offset : ℕ) (ss : List (List ℕ)) (way : Way) (ranked : List ℕ) w
       }
 
   abbrev pub testedNext : Held → Call → Held
-  testedNext h x = heldAfter (testedRefusal offset ss way ranked h (x .fragment) (entryCount (x .entries))) (testedAccepted offset ss way ranked h (x .fragment)) h
+  testedNext h x = ifPassed (testedRefusal offset ss way ranked h (x .fragment) (entryCount (x .entries))) (testedAccepted offset ss way ranked h (x .fragment)) h
 
   -- ---- calls one after the other
 
@@ -63,7 +63,7 @@ module _ (offset : ℕ) (ss : List (List ℕ)) (way : Way) (ranked : List ℕ) w
   -- one fragment, with its share from a place of the entries on, and its first row at a place
   pub record FragmentListed (h : Held) (x : Call) (from at : ℕ) (state : AuditState) (k′ : Counters) (rows entries rows′ entries′ : List ℕ) : Type 0 where
     pub held : record { state = state; counters = k′ } ≡ testedNext h x
-    pub told : rows′ ≡ placed (8 * at) (fragmentRows (length (x .fragment .reads)) (testedAnswer h x .rows)) rows
+    pub told : rows′ ≡ placed (8 * at) (outcomeRows (length (x .fragment .reads)) (testedAnswer h x .rows)) rows
     pub left : entries′ ≡ placed from (testedAnswer h x .entries) entries
 
   -- the whole list; nothing behind the shares is touched

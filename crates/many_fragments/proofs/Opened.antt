@@ -6,7 +6,7 @@ use mathlib.Core.List.{List, _++_}
 use Prim.Native.Nat.{ℕ, zero, suc, _*_, _≤_}
 use native.Mathlib.Omega.{arith}
 use lib.ListN.{length, take, drop}
-use Rattle.promises.specs.Refusal.{unless, _orElse_, outcome}
+use Rattle.promises.specs.Refusal.{unless, _orElse_, outcome, ifPassed}
 use Rattle.promises.proofs.Refusing.{stands, outcome-refused, outcome-number}
 use Rattle.catalogue.specs.Catalogue.{Catalogue, mapped, suppliedPlaces}
 use Rattle.catalogue.specs.Ranking.{rankingOutcome}
@@ -20,8 +20,7 @@ use Rattle.ledger.specs.Booking.{Counters}
 use Rattle.audit_rules.specs.declared.calls.CallAnswer.the-variants as calls
 use Rattle.audit_rules.specs.Settings.{Held}
 use Rattle.audit_rules.specs.Opening.{IndexLent, wayOf, openingRefusal}
-use Rattle.audit_rules.specs.Fragment.{heldAfter}
-use Rattle.audit_rules.specs.Run.{Answer, after, answers}
+use Rattle.audit_rules.specs.Run.{Answer, after}
 use Rattle.audit_rules.specs.Calls.{indexIf}
 use Rattle.audit_rules.proofs.Booked.{refused-holds}
 use Rattle.opening.specs.Opens.{OpeningRanked}
@@ -30,13 +29,12 @@ use Rattle.sighting.specs.Sights.{wayIf}
 use Rattle.fragments.proofs.Opened.{way-lent}
 use Rattle.fragment_lists.specs.declared.FragmentsAudit.{FragmentsAudit}
 use Rattle.fragment_lists.specs.Lists.{FragmentLists, fragmentsIn, listsFit}
-use Rattle.fragment_lists.specs.Listed.{allRows, allShares, writtenAfter, listRefusal, listWidth, listCalls, listAnswers, AuditsList}
-use Rattle.listed_fragments.specs.Listed.{testedAfter, testedAnswers, ListAudited}
+use Rattle.fragment_lists.specs.Listed.{allRows, allShares, listRefusal, listWidth, listCalls, listAnswers, AuditsList}
 use Rattle.many_fragments.specs.Tested.{fitRefusal, TestedList}
 use Rattle.many_fragments.proofs.Runs.{after-same, answers-same}
 
 -- a refusal writes nothing
-refused-written : (n : ℕ) → (n ≡ 0 → ⊥) → (written b : List ℕ) → writtenAfter n written b ≡ b
+refused-written : (n : ℕ) → (n ≡ 0 → ⊥) → (written b : List ℕ) → ifPassed n written b ≡ b
 refused-written zero h written b = absurd (h refl)
 refused-written (suc n) h written b = refl
 
@@ -59,9 +57,9 @@ module _ (q offset : ℕ) (c : Catalogue) (lent : IndexLent) (h : Held) (l : Fra
   refused-list n ne e =
       record {
         answer = outcome-refused n tt ne ∙ ap (λ z. outcome z tt) (sym e);
-        held = sym (ap (λ z. heldAfter z done h) e ∙ refused-holds n ne done h);
-        told = sym (ap (λ z. writtenAfter z (allRows (listCalls q offset c lent h l entries) given) rows) e ∙ refused-written n ne _ rows);
-        left = sym (ap (λ z. writtenAfter z (allShares given ++ drop (listWidth q offset c lent h l entries * length (l .ordinals)) entries) entries) e ∙ refused-written n ne _ entries);
+        held = sym (ap (λ z. ifPassed z done h) e ∙ refused-holds n ne done h);
+        told = sym (ap (λ z. ifPassed z (allRows (listCalls q offset c lent h l entries) given) rows) e ∙ refused-written n ne _ rows);
+        left = sym (ap (λ z. ifPassed z (allShares given ++ drop (listWidth q offset c lent h l entries * length (l .ordinals)) entries) entries) e ∙ refused-written n ne _ entries);
       }
 
   pub list-refused : (n : ℕ) → opening ≡ n → (n ≡ 0 → ⊥) → AuditsList q offset c lent h l (record { answer = calls.Refused n; state = h .state }) (h .counters) rows entries rows entries
@@ -87,11 +85,11 @@ module _ (q offset : ℕ) (c : Catalogue) (lent : IndexLent) (h : Held) (l : Fra
             let same = answers-same q offset c lent (listWidth q offset c lent h l entries) h p entries (fragmentsIn l) in
             record {
               answer = t .answer ∙ ap (λ n. outcome n tt) (sym own);
-              held = a .held ∙ sym (after-same q offset c lent (listWidth q offset c lent h l entries) h p entries (fragmentsIn l)) ∙ ap (λ n. heldAfter n done h) (sym e);
-              told = a .told ∙ ap (allRows (listCalls q offset c lent h l entries)) (sym same) ∙ ap (λ n. writtenAfter n (allRows (listCalls q offset c lent h l entries) given) rows) (sym e);
+              held = a .held ∙ sym (after-same q offset c lent (listWidth q offset c lent h l entries) h p entries (fragmentsIn l)) ∙ ap (λ n. ifPassed n done h) (sym e);
+              told = a .told ∙ ap (allRows (listCalls q offset c lent h l entries)) (sym same) ∙ ap (λ n. ifPassed n (allRows (listCalls q offset c lent h l entries) given) rows) (sym e);
               left =
                   a .left ∙ ap (λ x. allShares x ++ drop (listWidth q offset c lent h l entries * length (l .ordinals)) entries) (sym same)
-                  ∙ ap (λ n. writtenAfter n (allShares given ++ drop (listWidth q offset c lent h l entries * length (l .ordinals)) entries) entries) (sym e);
+                  ∙ ap (λ n. ifPassed n (allShares given ++ drop (listWidth q offset c lent h l entries * length (l .ordinals)) entries) entries) (sym e);
             }
         go false fit =
             let z : fitRefusal offset ss (wayOf q lent) (suppliedPlaces c) lent h l rows ≡ 25 = ap (λ b. unless b 25) fit in
@@ -99,9 +97,9 @@ module _ (q offset : ℕ) (c : Catalogue) (lent : IndexLent) (h : Held) (l : Fra
             let u = t .untouched (λ y. omega (arith, y, z)) in
             record {
               answer = t .answer ∙ ap (λ n. outcome n tt) (sym own);
-              held = u .0 ∙ sym (ap (λ n. heldAfter n done h) e);
-              told = u .1 ∙ sym (ap (λ n. writtenAfter n (allRows (listCalls q offset c lent h l entries) given) rows) e);
-              left = u .2 ∙ sym (ap (λ n. writtenAfter n (allShares given ++ drop (listWidth q offset c lent h l entries * length (l .ordinals)) entries) entries) e);
+              held = u .0 ∙ sym (ap (λ n. ifPassed n done h) e);
+              told = u .1 ∙ sym (ap (λ n. ifPassed n (allRows (listCalls q offset c lent h l entries) given) rows) e);
+              left = u .2 ∙ sym (ap (λ n. ifPassed n (allShares given ++ drop (listWidth q offset c lent h l entries * length (l .ordinals)) entries) entries) e);
             }
 
 -- ---- as the function has it

@@ -4,14 +4,14 @@ use mathlib.Core.Path.{_≡_, refl, sym, ap, ap₂, subst, _∙_}
 use mathlib.Core.List.{List, [], _∷_}
 use Prim.Native.Nat.{ℕ}
 use lib.ListN.{take, drop}
-use Rattle.promises.specs.Refusal.{_orElse_, outcome}
+use Rattle.promises.specs.Refusal.{_orElse_, outcome, ifPassed}
 use Rattle.catalogue.specs.Catalogue.{Catalogue, suppliedPlaces}
 use Rattle.index.specs.Index.{mappedSequences}
 use Rattle.scan.specs.Entries.{entryCount}
 use Rattle.index_search.specs.Work.{Way}
 use Rattle.audit_rules.specs.Settings.{Held}
 use Rattle.audit_rules.specs.Opening.{IndexLent, wayOf, openingRefusal}
-use Rattle.audit_rules.specs.Fragment.{Fragment, entriesLeft, heldAfter, testedRefusal, fragmentRefusal, fragmentRows, fragmentAccepted, fragmentWritten}
+use Rattle.audit_rules.specs.Fragment.{Fragment, entriesLeft, testedRefusal, fragmentRefusal, fragmentRows, fragmentAccepted, fragmentWritten}
 use Rattle.audit_rules.specs.Run.{Call, Answer, answerTo, next, answers, after}
 use Rattle.fragment_lists.specs.Listed.{callsOf}
 use Rattle.listed_fragments.specs.Listed.{testedAnswer, testedNext, testedAnswers, testedAfter}
@@ -45,7 +45,7 @@ module _ (q offset : ℕ) (c : Catalogue) (lent : IndexLent) where
         ap {B = Answer} (λ n. record { rows = outcome n (fragmentRows q offset c lent h f); entries = entriesLeft n (fragmentWritten q offset c lent h f es) es }) (own h p f (entryCount es))
 
     next-same : next q offset c h call ≡ testedNext offset ss way (suppliedPlaces c) h call
-    next-same = ap (λ n. heldAfter n (fragmentAccepted q offset c lent h f) h) (own h p f (entryCount es))
+    next-same = ap (λ n. ifPassed n (fragmentAccepted q offset c lent h f) h) (own h p f (entryCount es))
 
   module _ (width : ℕ) where
     pub after-same : (h : Held) → Passes h → (es : List ℕ) (fs : List Fragment) → after q offset c h (callsOf lent width es fs) ≡ testedAfter offset ss way (suppliedPlaces c) h (callsOf lent width es fs)

@@ -31,10 +31,10 @@ use Rattle.audit_rules.specs.Calls.{mateOf, fragmentOf, callOutcome, fragmentOu
 use Rattle.audit_rules.proofs.Finishing.{finish-outcome}
 use Rattle.audit_codes.specs.Codes.{modeOf, roleOf, isRole, isMark, isSet}
 use Rattle.unitigs.specs.Rows.{Applies}
-use Rattle.fragment_lists.specs.Listed.{fragmentRows}
+use Rattle.fragment_lists.specs.Listed.{outcomeRows}
 use Rattle.state_numbers.specs.Layout.{stateNumbers, stateIn, isState}
 use Rattle.sheet_numbers.specs.Sheet.{finishNumbers, sheetIn, isSheet}
-use Rattle.numbered_calls.specs.Calls.{settingsOf, CodedFragment, codesRight, fragmentIn, openRight, heldIn, fragmentRight, finishRight, OpensNumbers, AuditsNumbers, FinishesNumbers, AppliesNumbers}
+use Rattle.numbered_calls.specs.Calls.{codedSettings, CodedFragment, codesRight, fragmentIn, openRight, heldIn, fragmentRight, finishRight, OpensNumbers, AuditsNumbers, FinishesNumbers, AppliesNumbers}
 
 -- the number of an outcome is its refusal
 told-number : {A : Type 0} (n : ℕ) (a : A) (o : Outcome A) → o ≡ outcome n a → numberOf o ≡ n
@@ -77,7 +77,7 @@ module _ (c : Catalogue) (lent : IndexLent) (k : Counters) (mode remap floor lim
       → Opens auditSeed auditOffset c lent (record { mode = m; remap = isSet remap; floor = floor; limit = limit }) k o k′
       → (r : ℕ) → r ≡ numberOf (callOutcome (o .answer)) → (ns′ : List ℕ) → ns′ ≡ stateNumbers (o .state) → OpensNumbers c lent k mode remap floor limit ns r k′ ns′
   open-told t m e o k′ a r n ns′ w =
-      let b : Opens auditSeed auditOffset c lent (settingsOf mode remap floor limit) k o k′ = rw e at a in
+      let b : Opens auditSeed auditOffset c lent (codedSettings mode remap floor limit) k o k′ = rw e at a in
       record {
         number = rw t (n ∙ told-number _ _ _ (b .answer));
         state = rw t (w ∙ ap (λ (h : Held). stateNumbers (h .state)) (b .held));
@@ -87,21 +87,21 @@ module _ (c : Catalogue) (lent : IndexLent) (k : Counters) (mode remap floor lim
 -- ---- fragment
 
 -- the first number of the rows is the refusal, and there is room for two rows
-first-number : (x : FragmentAnswer) (b : List ℕ) → getD (placed 0 (fragmentRows 2 (fragmentOutcome x)) b) 0 0 ≡ numberOf (fragmentOutcome x)
+first-number : (x : FragmentAnswer) (b : List ℕ) → getD (placed 0 (outcomeRows 2 (fragmentOutcome x)) b) 0 0 ≡ numberOf (fragmentOutcome x)
 first-number (fragments.Refused n) b = refl
 first-number (fragments.Single m) b = refl
 first-number (fragments.Paired m) b = refl
 
-pub two-rows : (x : FragmentAnswer) → length (fragmentRows 2 (fragmentOutcome x)) ≤ 16
+pub two-rows : (x : FragmentAnswer) → length (outcomeRows 2 (fragmentOutcome x)) ≤ 16
 two-rows (fragments.Refused n) = omega arith
 two-rows (fragments.Single m) = omega arith
 two-rows (fragments.Paired m) = omega arith
 
-number-told : (x : FragmentAnswer) (n : ℕ) (rs : List Row) (b b′ : List ℕ) (r : ℕ) → fragmentOutcome x ≡ outcome n rs → b′ ≡ placed 0 (fragmentRows 2 (fragmentOutcome x)) b → r ≡ getD b′ 0 0 → r ≡ n
+number-told : (x : FragmentAnswer) (n : ℕ) (rs : List Row) (b b′ : List ℕ) (r : ℕ) → fragmentOutcome x ≡ outcome n rs → b′ ≡ placed 0 (outcomeRows 2 (fragmentOutcome x)) b → r ≡ getD b′ 0 0 → r ≡ n
 number-told x n rs b b′ r e v h = h ∙ ap (λ l. getD l 0 0) v ∙ first-number x b ∙ told-number n rs (fragmentOutcome x) e
 
-rows-told : (x y : Outcome (List Row)) (b b′ : List ℕ) → b′ ≡ placed 0 (fragmentRows 2 x) b → x ≡ y → b′ ≡ placed 0 (fragmentRows 2 y) b
-rows-told x y b b′ v e = v ∙ ap (λ o. placed 0 (fragmentRows 2 o) b) e
+rows-told : (x y : Outcome (List Row)) (b b′ : List ℕ) → b′ ≡ placed 0 (outcomeRows 2 x) b → x ≡ y → b′ ≡ placed 0 (outcomeRows 2 y) b
+rows-told x y b b′ v e = v ∙ ap (λ o. placed 0 (outcomeRows 2 o) b) e
 
 module _ (f : CodedFragment) (ns answer : List ℕ) where
   short-answer : length answer < 16 → fragmentRight f ns answer ≡ false
@@ -142,7 +142,7 @@ module _ (c : Catalogue) (lent : IndexLent) (k : Counters) (f : CodedFragment) (
             → Audits auditSeed auditOffset c lent (record { state = s; counters = k })
             (fragmentOf (f .ordinal) (f .count) (mateOf first (f .first .bases) (isSet (f .first .mark)) (f .first .qualities)) (mateOf second (f .second .bases) (isSet (f .second .mark)) (f .second .qualities)))
             entries a k′ entries′
-            → (ns′ : List ℕ) → ns′ ≡ stateNumbers (a .state) → (answer′ : List ℕ) → answer′ ≡ placed 0 (fragmentRows 2 (fragmentOutcome (a .answer))) answer
+            → (ns′ : List ℕ) → ns′ ≡ stateNumbers (a .state) → (answer′ : List ℕ) → answer′ ≡ placed 0 (outcomeRows 2 (fragmentOutcome (a .answer))) answer
             → (r : ℕ) → r ≡ getD answer′ 0 0 → AuditsNumbers c lent k f ns answer entries r k′ ns′ answer′ entries′
         fragment-told st s es first second e₁ e₂ a k′ entries′ g ns′ w answer′ v r n =
             let t = by-state f ns answer room one two true st in

@@ -21,15 +21,15 @@ use Rattle.audit_rules.specs.Unitigs.{applyRefusal, applied}
 use Rattle.audit_rules.specs.Calls.{mateOf, fragmentOf}
 use Rattle.audit_codes.specs.Codes.{modeOf, roleOf, isRole, isMark, isSet}
 use Rattle.fragment_lists.specs.Lists.{FragmentLists}
-use Rattle.fragment_lists.specs.Listed.{fragmentRows, listRefusal, listHeld, listRows, listEntries}
+use Rattle.fragment_lists.specs.Listed.{outcomeRows, listRefusal, listHeld, listRows, listEntries}
 use Rattle.state_numbers.specs.Layout.{stateLength, stateNumbers, stateIn, isState}
 use Rattle.sheet_numbers.specs.Sheet.{finishLength, finishNumbers, sheetIn, isSheet}
 
 -- ---- what is lent
 
 -- settings by their numbers
-abbrev pub settingsOf : ℕ → ℕ → ℕ → ℕ → Settings
-settingsOf mode remap floor limit = record { mode = modeOf mode; remap = isSet remap; floor = floor; limit = limit }
+abbrev pub codedSettings : ℕ → ℕ → ℕ → ℕ → Settings
+codedSettings mode remap floor limit = record { mode = modeOf mode; remap = isSet remap; floor = floor; limit = limit }
 
 -- a read with the numbers of its role and of its quality mark
 pub record CodedRead : Type 0 where
@@ -82,16 +82,16 @@ finishRight ns answer = leb finishLength (length answer) && isState ns
 
 module _ (c : Catalogue) (lent : IndexLent) (k : Counters) where
   pub record OpensNumbers (mode remap floor limit : ℕ) (ns : List ℕ) (r : ℕ) (k′ : Counters) (ns′ : List ℕ) : Type 0 where
-    pub number : r ≡ (unless (openRight mode remap ns) 26 orElse openingRefusal auditSeed auditOffset c lent (settingsOf mode remap floor limit) k)
-    pub state : ns′ ≡ cond (openRight mode remap ns) (stateNumbers (openingHeld auditSeed auditOffset c lent (settingsOf mode remap floor limit) k .state)) ns
-    pub counters : k′ ≡ cond (openRight mode remap ns) (openingHeld auditSeed auditOffset c lent (settingsOf mode remap floor limit) k .counters) k
+    pub number : r ≡ (unless (openRight mode remap ns) 26 orElse openingRefusal auditSeed auditOffset c lent (codedSettings mode remap floor limit) k)
+    pub state : ns′ ≡ cond (openRight mode remap ns) (stateNumbers (openingHeld auditSeed auditOffset c lent (codedSettings mode remap floor limit) k .state)) ns
+    pub counters : k′ ≡ cond (openRight mode remap ns) (openingHeld auditSeed auditOffset c lent (codedSettings mode remap floor limit) k .counters) k
 
   -- a refusal stands in both rows
   pub record AuditsNumbers (f : CodedFragment) (ns answer entries : List ℕ) (r : ℕ) (k′ : Counters) (ns′ answer′ entries′ : List ℕ) : Type 0 where
     pub number : r ≡ (unless (fragmentRight f ns answer) 26 orElse fragmentRefusal auditSeed auditOffset c lent (heldIn ns k) (fragmentIn f) (entryCount entries))
     pub state : ns′ ≡ cond (fragmentRight f ns answer) (stateNumbers (fragmentHeld auditSeed auditOffset c lent (heldIn ns k) (fragmentIn f) (entryCount entries) .state)) ns
     pub counters : k′ ≡ cond (fragmentRight f ns answer) (fragmentHeld auditSeed auditOffset c lent (heldIn ns k) (fragmentIn f) (entryCount entries) .counters) k
-    pub told : answer′ ≡ cond (fragmentRight f ns answer) (placed 0 (fragmentRows 2 (fragmentAnswer auditSeed auditOffset c lent (heldIn ns k) (fragmentIn f) (entryCount entries))) answer) answer
+    pub told : answer′ ≡ cond (fragmentRight f ns answer) (placed 0 (outcomeRows 2 (fragmentAnswer auditSeed auditOffset c lent (heldIn ns k) (fragmentIn f) (entryCount entries))) answer) answer
     pub left : entries′ ≡ cond (fragmentRight f ns answer) (fragmentEntries auditSeed auditOffset c lent (heldIn ns k) (fragmentIn f) entries) entries
 
   pub record AuditsListNumbers (l : FragmentLists) (ns rows entries : List ℕ) (r : ℕ) (k′ : Counters) (ns′ rows′ entries′ : List ℕ) : Type 0 where

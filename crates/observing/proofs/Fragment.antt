@@ -32,7 +32,7 @@ use Rattle.audit_rules.specs.declared.settings.AuditInputMode.{AuditInputMode}
 use Rattle.audit_rules.specs.declared.settings.AuditInputMode.the-variants as modes
 use Rattle.audit_rules.specs.declared.settings.Settings.{Settings}
 use Rattle.audit_rules.specs.Observing.{Sight, sightGroups, sightRoom, sightListed, sightEntries, sightRow}
-use Rattle.audit_rules.specs.Fragment.{firstOf, shareOf, inParts}
+use Rattle.audit_rules.specs.Fragment.{firstRefusal, shareOf, inParts}
 use Rattle.audit_rules.specs.Calls.{mappingRow, fragmentOutcome}
 use Rattle.audit_rules.proofs.Parts.{cleared-part}
 use Rattle.checking.specs.Checks.{byMode}
@@ -68,15 +68,15 @@ ten entries limit matched ne =
 
 module _ {A : Type 0} (f : A → ℕ) (x y : A) where
   -- a first refusal stands in either mode
-  first-of-mode : (m : AuditInputMode) (n : ℕ) → f x ≡ suc n → firstOf f (byMode m x y) ≡ suc n
+  first-of-mode : (m : AuditInputMode) (n : ℕ) → f x ≡ suc n → firstRefusal f (byMode m x y) ≡ suc n
   first-of-mode modes.SingleEnd n e = rw e
   first-of-mode modes.PairedEnd n e = rw e
 
   -- without one there is the second, if any
-  second-of-mode : (m : AuditInputMode) → m ≡ modes.PairedEnd → f x ≡ 0 → firstOf f (byMode m x y) ≡ f y
+  second-of-mode : (m : AuditInputMode) → m ≡ modes.PairedEnd → f x ≡ 0 → firstRefusal f (byMode m x y) ≡ f y
   second-of-mode m k e = rw (k, e) (or-none (f y))
 
-  none-of-mode : (m : AuditInputMode) → m ≡ modes.SingleEnd → f x ≡ 0 → firstOf f (byMode m x y) ≡ 0
+  none-of-mode : (m : AuditInputMode) → m ≡ modes.SingleEnd → f x ≡ 0 → firstRefusal f (byMode m x y) ≡ 0
   none-of-mode m k e = rw (k, e)
 
 -- an answer that is not a refusal
@@ -139,7 +139,7 @@ module _ (s : Settings) (ss : List (List ℕ)) (way : Way) (ranked : List ℕ) (
     one-refused n e k d b₃ z =
         let t = outcome-number (room x) n (sightRow s ss way x) (sym said ∙ ap answerOf e) in
         let u : room x ≡ 10 = ten (shareOf (s .mode) (entryCount b)) (s .limit) (length (sightGroups s ss x)) (λ v. t .1 (sym (t .0) ∙ v)) in
-        let q : firstOf room (byMode (s .mode) x y) ≡ 10 = first-of-mode room x y (s .mode) 9 u in
+        let q : firstRefusal room (byMode (s .mode) x y) ≡ 10 = first-of-mode room x y (s .mode) 9 u in
         record { answer = rw (q, d); entries = rw q (z ∙ within-cleared b b₂ first-within) }
 
     module _ (m : Mapping) (e : r ≡ answers.Mapped m) where
@@ -154,7 +154,7 @@ module _ (s : Settings) (ss : List (List ℕ)) (way : Way) (ranked : List ℕ) (
       -- a read alone
       pub one-mapped : s .mode ≡ modes.SingleEnd → ReadsObserved s ss way ranked (sights s f first g second) (fragments.Single m) b b₂
       one-mapped k =
-          let q : firstOf room (byMode (s .mode) x y) ≡ 0 = none-of-mode room x y (s .mode) k (one-said .0) in
+          let q : firstRefusal room (byMode (s .mode) x y) ≡ 0 = none-of-mode room x y (s .mode) k (one-said .0) in
           record { answer = rw q (single (s .mode) k); entries = rw q (one-written ∙ alone (s .mode) k) }
         where
           single : (mode : AuditInputMode) → mode ≡ modes.SingleEnd → accepted (mappingRow m ∷ []) ≡ accepted (map (sightRow s ss way) (byMode mode x y))
@@ -184,13 +184,13 @@ module _ (s : Settings) (ss : List (List ℕ)) (way : Way) (ranked : List ℕ) (
         said₂ : fragmentOutcome r₂ ≡ outcome (room y) (mappingRow m ∷ sightRow s ss way y ∷ [])
         said₂ = there .answer ∙ ap (λ n. outcome (sightRoom s ss n y) (mappingRow m ∷ sightRow s ss way y ∷ [])) (count width two-fit b₂ (first-within .same))
 
-        rooms : firstOf room (byMode (s .mode) x y) ≡ room y
+        rooms : firstRefusal room (byMode (s .mode) x y) ≡ room y
         rooms = second-of-mode room x y (s .mode) k (one-said .0)
 
         both-rows : (mode : AuditInputMode) → mode ≡ modes.PairedEnd → (mappingRow m ∷ sightRow s ss way y ∷ []) ≡ map (sightRow s ss way) (byMode mode x y)
         both-rows mode k = rw (k, one-said .1)
 
-        two-said : fragmentOutcome r₂ ≡ outcome (firstOf room (byMode (s .mode) x y)) (map (sightRow s ss way) (byMode (s .mode) x y))
+        two-said : fragmentOutcome r₂ ≡ outcome (firstRefusal room (byMode (s .mode) x y)) (map (sightRow s ss way) (byMode (s .mode) x y))
         two-said = said₂ ∙ ap₂ (λ n rows. outcome n rows) (sym rooms) (both-rows (s .mode) k)
 
         second-within : Within b b₃
@@ -204,14 +204,14 @@ module _ (s : Settings) (ss : List (List ℕ)) (way : Way) (ranked : List ℕ) (
         two-refused n e₂ b₄ z =
             let t = outcome-number (room y) n (mappingRow m ∷ sightRow s ss way y ∷ []) (sym said₂ ∙ ap fragmentOutcome e₂) in
             let u : room y ≡ 10 = ten (shareOf (s .mode) (entryCount b)) (s .limit) (length (sightGroups s ss y)) (λ v. t .1 (sym (t .0) ∙ v)) in
-            let q : firstOf room (byMode (s .mode) x y) ≡ 10 = rooms ∙ u in
+            let q : firstRefusal room (byMode (s .mode) x y) ≡ 10 = rooms ∙ u in
             record { answer = ap fragmentOutcome (sym e₂) ∙ two-said; entries = rw q (z ∙ within-cleared b b₃ second-within) }
 
         -- both are mapped
         pub two-mapped : OneOf (1 ∷ 2 ∷ []) (tagOf the-type r₂) → ReadsObserved s ss way ranked (sights s f first g second) r₂ b b₃
         two-mapped t =
             let u : room y ≡ 0 = not-refused r₂ (room y) (mappingRow m ∷ sightRow s ss way y ∷ []) t said₂ in
-            let q : firstOf room (byMode (s .mode) x y) ≡ 0 = rooms ∙ u in
+            let q : firstRefusal room (byMode (s .mode) x y) ≡ 0 = rooms ∙ u in
             let c = count width two-fit b₂ (first-within .same) in
             let w = left-written s ss ranked second width width b₂ (omega (arith, two-fit, first-within .same)) g (zero-part width two-fit b₂ (first-within .same) second-part) (ap (λ n. sightRoom s ss n y) c ∙ u) in
             record { answer = two-said; entries = rw q (there .entries ∙ w ∙ ap (λ l. placed width (sightEntries s ss ranked y) l) one-written ∙ both-parts (s .mode) k) }

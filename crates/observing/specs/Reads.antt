@@ -13,7 +13,7 @@ use Rattle.search.specs.Answered.{searchEntries}
 use Rattle.audit_rules.specs.declared.calls.FragmentAnswer.{FragmentAnswer}
 use Rattle.audit_rules.specs.declared.settings.Settings.{Settings}
 use Rattle.audit_rules.specs.Observing.{Sight, sightRoom, sightEntries, sightRow}
-use Rattle.audit_rules.specs.Fragment.{firstOf, shareOf, inParts, entriesLeft}
+use Rattle.audit_rules.specs.Fragment.{firstRefusal, shareOf, inParts, entriesLeft}
 use Rattle.audit_rules.specs.Calls.{mappingRow, fragmentOutcome}
 use Rattle.checking.specs.Checks.{byMode}
 use Rattle.sighting.specs.Sights.{sight}
@@ -30,7 +30,7 @@ sights s searched first searched′ second = byMode (s .mode) (sight searched fi
 
 module _ (s : Settings) (ss : List (List ℕ)) (way : Way) (ranked : List ℕ) (reads : List Sight) where
   abbrev pub roomsRefusal : ℕ → ℕ
-  roomsRefusal entries = firstOf (sightRoom s ss (shareOf (s .mode) entries)) reads
+  roomsRefusal entries = firstRefusal (sightRoom s ss (shareOf (s .mode) entries)) reads
 
   pub record ReadsObserved (r : FragmentAnswer) (buffer buffer′ : List ℕ) : Type 0 where
     pub answer : fragmentOutcome r ≡ outcome (roomsRefusal (entryCount buffer)) (map (sightRow s ss way) reads)

@@ -12,7 +12,7 @@ use Rattle.lists.proofs.Cases.{by-test, and-true}
 use Rattle.promises.specs.Refusal.{unless, _orElse_, outcome}
 use Rattle.promises.proofs.Refusing.{stands, grouped, outcome-refused}
 use Rattle.bases.specs.Eligibility.{lastQuality}
-use Rattle.catalogue.specs.Catalogue.{Catalogue, mapped, inBounds, catalogueRefusal}
+use Rattle.catalogue.specs.Catalogue.{Catalogue, mapped, inBounds, catalogueRefusal, targets}
 use Rattle.catalogue.specs.Ranking.{rankingOutcome}
 use Rattle.catalogue.specs.declared.ranks.Ranking.{Ranking}
 use Rattle.catalogue.specs.declared.ranks.Ranking.the-variants.{Refused, Ranked}
@@ -23,12 +23,12 @@ use Rattle.index.specs.Index.{rankedSequences, mappedSequences, planRefusal}
 use Rattle.planning.specs.Answers.{PlanRanked}
 use Rattle.planning.proofs.Planning.{no-refusal, ranked-mapped, number, not-zero}
 use Rattle.answers.specs.Bounds.{limitRight}
-use Rattle.ledger.specs.Booking.{Counters}
+use Rattle.ledger.specs.Booking.{Counters, countersFor}
 use Rattle.audit_rules.specs.declared.settings.Settings.{Settings}
 use Rattle.audit_rules.specs.Settings.{floorRight}
-use Rattle.audit_rules.specs.Opening.{indexRight, countersRight, openingRefusal}
+use Rattle.audit_rules.specs.Opening.{indexRight, openingRefusal}
 use Rattle.audit_rules.specs.Calls.{indexIf}
-use Rattle.opening.specs.Opens.{settingsRefusal, countersFor, indexFits, OpeningRanked}
+use Rattle.opening.specs.Opens.{settingsRefusal, indexFits, OpeningRanked}
 
 -- ---- settings
 
@@ -56,13 +56,6 @@ module _ (n : ℕ) (k : Counters) where
     pub by-multi : length (k .singles) ≡ n → eqb (length (k .multi)) n ≡ countersFor n k
     by-multi e = rw (eq-eqb (length (k .placements)) n placed, eq-eqb (length (k .singles)) n e)
 
-  -- counters of the right numbers
-  pub counted : countersFor n k ≡ true → (length (k .placements) ≡ n) × (length (k .singles) ≡ n) × (length (k .multi) ≡ n)
-  counted t =
-      let u = and-true (eqb (length (k .placements)) n && eqb (length (k .singles)) n) (eqb (length (k .multi)) n) t in
-      let v = and-true (eqb (length (k .placements)) n) (eqb (length (k .singles)) n) (u .0) in
-      (eqb-true (length (k .placements)) n (v .0), eqb-true (length (k .singles)) n (v .1), eqb-true (length (k .multi)) n (u .1))
-
 -- where 2 follows, the test before it does not tell
 two-follows : (a b : Bool) → (unless a 2 orElse 2) ≡ (unless b 2 orElse 2)
 two-follows true true = refl
@@ -71,12 +64,12 @@ two-follows false true = refl
 two-follows false false = refl
 
 -- counters for each target, or for each mark: the refusal is the same, since a catalogue in which these differ is refused by 2
-pub by-marks : (c : Catalogue) (k : Counters) (n : ℕ) → (unless (countersRight c k) 2 orElse catalogueRefusal c orElse n) ≡ (unless (countersFor (length (c .marks)) k) 2 orElse catalogueRefusal c orElse n)
+pub by-marks : (c : Catalogue) (k : Counters) (n : ℕ) → (unless (countersFor (length (targets c)) k) 2 orElse catalogueRefusal c orElse n) ≡ (unless (countersFor (length (c .marks)) k) 2 orElse catalogueRefusal c orElse n)
 unfolding catalogueRefusal
 by-marks c k n =
     by-test (inBounds c)
     (λ e. ap (λ m. unless (countersFor m k) 2 orElse catalogueRefusal c orElse n) (target-count c e))
-    (λ e. rw e (two-follows (countersRight c k) (countersFor (length (c .marks)) k)))
+    (λ e. rw e (two-follows (countersFor (length (targets c)) k) (countersFor (length (c .marks)) k)))
 
 -- ---- the chain
 

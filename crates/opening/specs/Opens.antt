@@ -22,10 +22,6 @@ use Rattle.audit_rules.specs.Opening.{IndexLent, openingRefusal}
 abbrev pub settingsRefusal : ℕ → Settings → ℕ
 settingsRefusal offset s = unless (floorRight offset (s .floor)) 11 orElse unless (limitRight (s .limit)) 9
 
--- counters of three kinds for n targets
-abbrev pub countersFor : ℕ → Counters → Bool
-countersFor n k = eqb (length (k .placements)) n && eqb (length (k .singles)) n && eqb (length (k .multi)) n
-
 -- the columns are the index of sequences, where they are tested
 abbrev pub indexFits : Bool → ℕ → List (List ℕ) → List ℕ → List ℕ → List ℕ → Bool
 indexFits tested q ss ks rs os = not tested || columnsOf (indexOf q ss) ks rs os

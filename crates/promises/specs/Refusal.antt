@@ -13,10 +13,19 @@ abbrev pub _orElse_ : ℕ → ℕ → ℕ
 zero orElse n = n
 suc m orElse n = suc m
 
+-- by a refusal: what follows where it is 0, and what stands where it is not
+abbrev pub ifPassed : {A : Type 0} → ℕ → A → A → A
+ifPassed zero follows stands = follows
+ifPassed (suc n) follows stands = stands
+
 -- a call is refused by a number, or accepted with an answer
 pub data Outcome (A : Type 0) : Type 0 where
   refused : ℕ → Outcome A
   accepted : A → Outcome A
+
+abbrev pub isRefused : {A : Type 0} → Outcome A → Bool
+isRefused (refused n) = true
+isRefused (accepted a) = false
 
 -- the number that stands for an outcome: its refusal, or 0
 abbrev pub numberOf : {A : Type 0} → Outcome A → ℕ

@@ -17,7 +17,7 @@ use Rattle.lists.proofs.Filter.{length-filter}
 use Rattle.lists.proofs.Member.{∈-getD}
 use Rattle.lists.proofs.Raised.{times, length-raised, length-raisedAt, raisedAt-times}
 use Rattle.ledger.specs.Booking.{maxCounter}
-use Rattle.raising.specs.Targets.{targetsIn, chosen, countsAt, raisedIf, sums, small, Raisable, RaisableAt, maxGroups}
+use Rattle.raising.specs.Targets.{targetsIn, countedTargets, countsAt, raisedIf, sums, small, Raisable, RaisableAt, maxGroups}
 use Rattle.raising.proofs.Choosing.{length-targets, targets-at, chosen-end, chosen-step, chosen-names, chosen-fewer}
 
 -- ---- numbers of 64 bits
@@ -38,7 +38,7 @@ small-before xs ns e =
 -- the counters raised by the first i entries
 pub record RaisedSoFar (each : Bool) (n : ℕ) (entries counters₀ : List ℕ) (i : ℕ) (counters : List ℕ) : Type 0 where
   pub upto : i ≤ n
-  pub rest : raisedAt (chosen each (drop i (targetsIn n entries))) counters ≡ raisedAt (chosen each (targetsIn n entries)) counters₀
+  pub rest : raisedAt (countedTargets each (drop i (targetsIn n entries))) counters ≡ raisedAt (countedTargets each (targetsIn n entries)) counters₀
   pub long : length counters ≡ length counters₀
 
 raised-cons : (b : Bool) (x : ℕ) (xs ns : List ℕ) → raisedAt (consIf b x xs) ns ≡ raisedAt xs (raisedIf b x ns)
@@ -62,7 +62,7 @@ module _ (each : Bool) (n : ℕ) (entries counters₀ : List ℕ) where
   raised-start = record { upto = omega arith; rest = refl; long = refl }
 
   module _ (i : ℕ) (counters : List ℕ) (s : RaisedSoFar each n entries counters₀ i counters) where
-    pub raised-end : n ≤ i → counters ≡ raisedAt (chosen each (targetsIn n entries)) counters₀
+    pub raised-end : n ≤ i → counters ≡ raisedAt (countedTargets each (targetsIn n entries)) counters₀
     raised-end h = rw (chosen-end each (targetsIn n entries) i (omega (arith, length-targets n entries))) at (s .rest)
 
     module _ (here : i < n) where
@@ -79,12 +79,12 @@ module _ (each : Bool) (n : ℕ) (entries counters₀ : List ℕ) where
           inside : getD entries (4 * i) 0 < length counters
           inside = omega (arith, p .targeted .inside i here, s .long)
 
-          named : 0 < times (getD entries (4 * i) 0) (chosen each (drop i (targetsIn n entries)))
+          named : 0 < times (getD entries (4 * i) 0) (countedTargets each (drop i (targetsIn n entries)))
           named = rw (← target) (chosen-names each (targetsIn n entries) i within)
 
           fits : getD counters (getD entries (4 * i) 0) 0 < maxCounter
           fits =
-              let xs = chosen each (drop i (targetsIn n entries)) in
+              let xs = countedTargets each (drop i (targetsIn n entries)) in
               let e : small (raisedAt xs counters) ≡ true = rw (s .rest) (p .fits) in
               omega
               (arith, named, small-at (raisedAt xs counters) e (getD entries (4 * i) 0) (omega (arith, inside, length-raisedAt xs counters)), raisedAt-times xs counters (getD entries (4 * i) 0) inside)
@@ -92,10 +92,10 @@ module _ (each : Bool) (n : ℕ) (entries counters₀ : List ℕ) where
       pub raised-next : (counters′ : List ℕ) → counters′ ≡ raisedIf (countsAt each (targetsIn n entries) i) (getD entries (4 * i) 0) counters → RaisedSoFar each n entries counters₀ (i + 1) counters′
       raised-next counters′ e = record { upto = omega arith; rest = rw (add-one, e) rest; long = rw e (length-raisedIf (countsAt each (targetsIn n entries) i) (getD entries (4 * i) 0) counters ∙ s .long) }
         where
-          rest : raisedAt (chosen each (drop (suc i) (targetsIn n entries))) (raisedIf (countsAt each (targetsIn n entries) i) (getD entries (4 * i) 0) counters) ≡ raisedAt (chosen each (targetsIn n entries)) counters₀
+          rest : raisedAt (countedTargets each (drop (suc i) (targetsIn n entries))) (raisedIf (countsAt each (targetsIn n entries) i) (getD entries (4 * i) 0) counters) ≡ raisedAt (countedTargets each (targetsIn n entries)) counters₀
           rest =
               rw (← targets-at n entries i here)
-              (sym (raised-cons (countsAt each (targetsIn n entries) i) (getD (targetsIn n entries) i 0) (chosen each (drop (suc i) (targetsIn n entries))) counters)
+              (sym (raised-cons (countsAt each (targetsIn n entries) i) (getD (targetsIn n entries) i 0) (countedTargets each (drop (suc i) (targetsIn n entries))) counters)
               ∙ ap (λ xs. raisedAt xs counters) (sym (chosen-step each (targetsIn n entries) i within))
               ∙ s .rest)
 
@@ -177,12 +177,12 @@ module _ (xs once : List ℕ) (e : once ≡ raisedAt xs clear) where
   marks-raisable each n entries few h room inside =
       record {
         targeted = record { room = room; inside = λ i b. omega (arith, inside i b, ap length e, length-marks xs [] 4096) };
-        fits = rw e (marks-small xs (chosen each (targetsIn n entries)) 4096 (omega (arith, few, chosen-fewer each (targetsIn n entries), length-targets n entries)));
+        fits = rw e (marks-small xs (countedTargets each (targetsIn n entries)) 4096 (omega (arith, few, chosen-fewer each (targetsIn n entries), length-targets n entries)));
       }
 
   -- added to counters, those of both are the counters raised by both
   pub marks-fit : (ys twice counters : List ℕ) → twice ≡ raisedAt ys once → length counters ≤ 4096 → small (sums counters twice) ≡ small (raisedAt ys (raisedAt xs counters))
   marks-fit ys twice counters f h = ap (λ ms. small (sums counters ms)) (f ∙ ap (raisedAt ys) e) ∙ ap small (marks-added xs ys 4096 counters h)
 
-pub few-chosen : (each : Bool) (n : ℕ) (entries : List ℕ) → n ≤ maxGroups → length (chosen each (targetsIn n entries)) ≤ maxGroups
+pub few-chosen : (each : Bool) (n : ℕ) (entries : List ℕ) → n ≤ maxGroups → length (countedTargets each (targetsIn n entries)) ≤ maxGroups
 few-chosen each n entries h = omega (arith, chosen-fewer each (targetsIn n entries), length-targets n entries)

@@ -12,7 +12,7 @@ use lib.Dec.{eqb, eqb·suc-suc}
 use borrow.Author.Tests.{eq-eqb, ne-eqb, eqb-true}
 use Rattle.lists.specs.Filter.{consIf}
 use Rattle.lists.proofs.Raised.{times}
-use Rattle.raising.specs.Targets.{targetsIn, runEnds, chosen, countsAt}
+use Rattle.raising.specs.Targets.{targetsIn, runEnds, countedTargets, countsAt}
 
 -- ---- the targets in entries
 
@@ -52,7 +52,7 @@ module _ (each : Bool) (n : ℕ) (entries : List ℕ) (i : ℕ) where
 -- ---- those from a place on
 
 -- none behind the last
-pub chosen-end : (each : Bool) (ts : List ℕ) (i : ℕ) → length ts ≤ i → chosen each (drop i ts) ≡ []
+pub chosen-end : (each : Bool) (ts : List ℕ) (i : ℕ) → length ts ≤ i → countedTargets each (drop i ts) ≡ []
 chosen-end true ts i h = drop-of-length-le ts h
 chosen-end false ts i h = rw (drop-of-length-le ts h)
 
@@ -63,7 +63,7 @@ ends-step (x ∷ y ∷ ys) zero h = rw (ne-eqb 1 (suc (suc (length ys))) (λ e. 
 ends-step (x ∷ xs) (suc i) h = rw (eqb·suc-suc (suc i) (length xs)) (ends-step xs i (omega arith))
 
 -- the one at a place comes first, if it counts
-pub chosen-step : (each : Bool) (ts : List ℕ) (i : ℕ) → i < length ts → chosen each (drop i ts) ≡ consIf (countsAt each ts i) (getD ts i 0) (chosen each (drop (suc i) ts))
+pub chosen-step : (each : Bool) (ts : List ℕ) (i : ℕ) → i < length ts → countedTargets each (drop i ts) ≡ consIf (countsAt each ts i) (getD ts i 0) (countedTargets each (drop (suc i) ts))
 chosen-step true ts i h = drop-cons ts i 0 h
 chosen-step false ts i h = ends-step ts i h
 
@@ -81,7 +81,7 @@ ends-head x (y ∷ ys) = go (eqb x y) refl (ends-head y ys)
     go false e h = times-head x (runEnds (y ∷ ys))
 
 -- the target at a place is among those from there on that count
-pub chosen-names : (each : Bool) (ts : List ℕ) (i : ℕ) → i < length ts → 0 < times (getD ts i 0) (chosen each (drop i ts))
+pub chosen-names : (each : Bool) (ts : List ℕ) (i : ℕ) → i < length ts → 0 < times (getD ts i 0) (countedTargets each (drop i ts))
 chosen-names true ts i h = rw (drop-cons ts i 0 h) (times-head (getD ts i 0) (drop (suc i) ts))
 chosen-names false ts i h = rw (drop-cons ts i 0 h) (ends-head (getD ts i 0) (drop (suc i) ts))
 
@@ -95,7 +95,7 @@ ends-fewer (x ∷ y ∷ ys) = go (not (eqb x y)) (ends-fewer (y ∷ ys))
     go false h = omega arith
 
 -- no more count than there are
-pub chosen-fewer : (each : Bool) (ts : List ℕ) → length (chosen each ts) ≤ length ts
+pub chosen-fewer : (each : Bool) (ts : List ℕ) → length (countedTargets each ts) ≤ length ts
 chosen-fewer true ts = omega arith
 chosen-fewer false ts = ends-fewer ts
 

@@ -14,7 +14,7 @@ use Rattle.lists.proofs.Cases.{and-true}
 use Rattle.lists.proofs.Every.{every-fails, every-passes, every-end}
 use Rattle.lists.proofs.Raised.{times, length-raisedAt}
 use Rattle.ledger.specs.Booking.{maxCounter}
-use Rattle.raising.specs.Targets.{runEnds, chosen, small, roomAt}
+use Rattle.raising.specs.Targets.{runEnds, countedTargets, small, roomAt}
 use Rattle.raising.proofs.Choosing.{chosen-fewer}
 use Rattle.raising.proofs.Adding.{at-small, times-fewer, marks-at}
 
@@ -29,7 +29,7 @@ every-ends p (x ∷ y ∷ ys) h =
     go true e f = rw (e, f)
     go false e f = f
 
-every-chosen : (p : ℕ → Bool) (each : Bool) (ts : List ℕ) → every p ts ≡ true → every p (chosen each ts) ≡ true
+every-chosen : (p : ℕ → Bool) (each : Bool) (ts : List ℕ) → every p ts ≡ true → every p (countedTargets each ts) ≡ true
 every-chosen p true ts h = h
 every-chosen p false ts h = every-ends p ts h
 
@@ -45,18 +45,18 @@ named-passes p x (y ∷ ys) h t =
     go false e f q = f (rw e at t)
 
 -- where each counter that is raised has room for all raises, none passes 64 bits
-pub room-fits : (each : Bool) (ts us ns : List ℕ) (more : ℕ) → length ts + length us ≤ more → roomAt more ts ns ≡ true → roomAt more us ns ≡ true → ((i : ℕ) → getD ns i 0 ≤ maxCounter) → true ≡ small (raisedAt (chosen each us) (raisedAt (chosen each ts) ns))
+pub room-fits : (each : Bool) (ts us ns : List ℕ) (more : ℕ) → length ts + length us ≤ more → roomAt more ts ns ≡ true → roomAt more us ns ≡ true → ((i : ℕ) → getD ns i 0 ≤ maxCounter) → true ≡ small (raisedAt (countedTargets each us) (raisedAt (countedTargets each ts) ns))
 room-fits each ts us ns more h a b fit =
     sym (at-small (raisedAt ys (raisedAt xs ns)) (λ i k. within i (omega (arith, length-raisedAt ys (raisedAt xs ns), length-raisedAt xs ns))))
   where
     xs : List ℕ
-    xs = chosen each ts
+    xs = countedTargets each ts
 
     ys : List ℕ
-    ys = chosen each us
+    ys = countedTargets each us
 
-    room : (zs : List ℕ) → roomAt more zs ns ≡ true → (i : ℕ) → 0 < times i (chosen each zs) → getD ns i 0 + more ≤ maxCounter
-    room zs r i t = leb-true (getD ns i 0 + more) maxCounter (named-passes (λ t. leb (getD ns t 0 + more) maxCounter) i (chosen each zs) (every-chosen (λ t. leb (getD ns t 0 + more) maxCounter) each zs r) t)
+    room : (zs : List ℕ) → roomAt more zs ns ≡ true → (i : ℕ) → 0 < times i (countedTargets each zs) → getD ns i 0 + more ≤ maxCounter
+    room zs r i t = leb-true (getD ns i 0 + more) maxCounter (named-passes (λ t. leb (getD ns t 0 + more) maxCounter) i (countedTargets each zs) (every-chosen (λ t. leb (getD ns t 0 + more) maxCounter) each zs r) t)
 
     within : (i : ℕ) → i < length ns → getD (raisedAt ys (raisedAt xs ns)) i 0 ≤ maxCounter
     within i k = go (times i xs) refl (times i ys) refl

@@ -21,8 +21,8 @@ runEnds (x ∷ []) = x ∷ []
 runEnds (x ∷ y ∷ ys) = consIf (not (eqb x y)) x (runEnds (y ∷ ys))
 
 -- each of some targets, or one of each run
-abbrev pub chosen : Bool → List ℕ → List ℕ
-chosen each ts = cond each ts (runEnds ts)
+abbrev pub countedTargets : Bool → List ℕ → List ℕ
+countedTargets each ts = cond each ts (runEnds ts)
 
 -- the target at a place counts: each does, or that at the end of a run
 abbrev pub countsAt : Bool → List ℕ → ℕ → Bool
@@ -54,7 +54,7 @@ pub record Targeted (n : ℕ) (entries : List ℕ) (targets : ℕ) : Type 0 wher
 -- and counters that stay within 64 bits when they are raised
 pub record Raisable (each : Bool) (n : ℕ) (entries counters : List ℕ) : Type 0 where
   pub targeted : Targeted n entries (length counters)
-  pub fits : small (raisedAt (chosen each (targetsIn n entries)) counters) ≡ true
+  pub fits : small (raisedAt (countedTargets each (targetsIn n entries)) counters) ≡ true
 
 -- one entry of n whose target's counter can be raised
 pub record RaisableAt (n i : ℕ) (entries counters : List ℕ) : Type 0 where

@@ -4,7 +4,7 @@ ghost use Prim.Native.Nat.{_*_, _≤_, _<_};
 ghost use lib.ListN.{length, getD};
 ghost use Rattle.lists.specs.Raised.{raisedAt};
 ghost use Rattle.promises.specs.Slice.{old, new};
-ghost use Rattle.raising.specs.Targets.{targetsIn, runEnds, countsAt, raisedIf, chosen, sums, small, roomAt, Targeted, RaisableAt, Raisable, Fittable};
+ghost use Rattle.raising.specs.Targets.{targetsIn, runEnds, countsAt, raisedIf, countedTargets, sums, small, roomAt, Targeted, RaisableAt, Raisable, Fittable};
 use ledger::MAX_COUNTER;
 
 // Whether entry i is one that counts: each is, or the last of each run of one target.
@@ -54,7 +54,7 @@ fn raise_at(counters: &mut [u64], entries: &[u64], n: usize, i: usize, each: boo
 // Raises the counters of the first n entries' targets: of each, or once for each run of one target.
 pub fn raise_targets(counters: &mut [u64], entries: &[u64], n: usize, each: bool)
     requires { ⌜ Raisable each n (now entries) (now counters) ⌝ }
-    ensures { λ _. ⌜ new counters ≡ raisedAt (chosen each (targetsIn n (old entries))) (old counters) ⌝ }
+    ensures { λ _. ⌜ new counters ≡ raisedAt (countedTargets each (targetsIn n (old entries))) (old counters) ⌝ }
 {
     let mut i: usize = 0;
     while i < n {
@@ -89,7 +89,7 @@ fn totals_fit(
     each: bool,
 ) -> bool
     requires { ⌜ Fittable n (now first) m (now second) (now counters) ⌝ }
-    ensures { λ r. ⌜ r ≡ small (raisedAt (chosen each (targetsIn m (old second))) (raisedAt (chosen each (targetsIn n (old first))) (old counters))) ⌝ }
+    ensures { λ r. ⌜ r ≡ small (raisedAt (countedTargets each (targetsIn m (old second))) (raisedAt (countedTargets each (targetsIn n (old first))) (old counters))) ⌝ }
 {
     let mut marks = [0u64; 4096];
     raise_targets(&mut marks, first, n, each);
@@ -125,7 +125,7 @@ pub fn targets_fit(
     each: bool,
 ) -> bool
     requires { ⌜ Fittable n (now first) m (now second) (now counters) ⌝ }
-    ensures { λ r. ⌜ r ≡ small (raisedAt (chosen each (targetsIn m (old second))) (raisedAt (chosen each (targetsIn n (old first))) (old counters))) ⌝ }
+    ensures { λ r. ⌜ r ≡ small (raisedAt (countedTargets each (targetsIn m (old second))) (raisedAt (countedTargets each (targetsIn n (old first))) (old counters))) ⌝ }
 {
     let more = (n + m) as u64;
     if has_room(counters, first, n, more) {

@@ -24,7 +24,7 @@ use Rattle.ledger.specs.Booking.{Counters, Books, bookedAll, countable}
 use Rattle.ledger.specs.Counting.{Ranked}
 use Rattle.ledger.specs.declared.Ledger.{Ledger}
 use Rattle.posting.specs.declared.Posted.{Posted}
-use Rattle.booking.specs.Books.{postedAll, booksSmall, CountersFor, Postable, FragmentPostable}
+use Rattle.booking.specs.Books.{postedAll, booksSmall, CountersLent, Postable, FragmentPostable}
 use Rattle.audit_rules.specs.declared.calls.FragmentAnswer.{FragmentAnswer}
 use Rattle.audit_rules.specs.declared.calls.FragmentAnswer.the-variants as fragments
 use Rattle.audit_rules.specs.declared.calls.Mates.{Mates}
@@ -36,7 +36,7 @@ use Rattle.audit_rules.specs.declared.settings.MateRole.the-variants as roles
 use Rattle.audit_rules.specs.Settings.{roleNumber}
 use Rattle.audit_rules.specs.declared.settings.Settings.{Settings}
 use Rattle.audit_rules.specs.Observing.{Sight, sightRoom, sightEntries, sightRow}
-use Rattle.audit_rules.specs.Fragment.{firstOf, shareOf, inParts, entriesLeft}
+use Rattle.audit_rules.specs.Fragment.{firstRefusal, shareOf, inParts, entriesLeft}
 use Rattle.audit_rules.specs.Calls.{mappingRow, fragmentOutcome}
 use Rattle.audit_rules.proofs.Booked.{few-roles}
 use Rattle.audit_rules.proofs.Parts.{Short, InParts, length-parts, parts-placed}
@@ -47,7 +47,7 @@ use Rattle.observing.specs.Reads.{sights, roomsRefusal, ReadsObserved}
 use Rattle.observing.proofs.Filled.{Within, within-placed, within-cleared, within-zeros}
 use Rattle.tallies.specs.Answers.{tallyOf, answerPostings, AnswerPostable, AnswerPosted}
 use Rattle.tallies.proofs.Posted.{AllPost, posted-all, books-countable}
-use Rattle.ranked_reads.specs.Observe.{sightBooked, rankedRefusal, RankedLent, RankedObserved}
+use Rattle.ranked_reads.specs.Observe.{sightBooked, observedRefusal, RankedLent, RankedObserved}
 use Rattle.ranked_reads.proofs.Seeing.{sight-short, sight-posts, sight-postable}
 
 abbrev isRefused : FragmentAnswer → Bool
@@ -93,7 +93,7 @@ module _ (s : Settings) (ss : List (List ℕ)) (way : Way) (ranked : List ℕ) (
     single-within : Within buffer entries
     single-within = rw written (within-parts buffer (4 * P) 0 (sightEntries s ss ranked one ∷ []) (cleared buffer) (within-zeros buffer) (sight-short s ss one ranked P room, tt) (omega arith))
 
-    single-lent : (k : Counters) → n ≡ length (k .placements) → CountersFor (length (k .placements)) k → FragmentPostable (tallyOf first m) (tallyOf first m) false (4 * P) entries k
+    single-lent : (k : Counters) → n ≡ length (k .placements) → CountersLent (length (k .placements)) k → FragmentPostable (tallyOf first m) (tallyOf first m) false (4 * P) entries k
     single-lent k e c =
         record {
           counters = c;
@@ -143,7 +143,7 @@ module _ (s : Settings) (ss : List (List ℕ)) (way : Way) (ranked : List ℕ) (
     pair-within : Within buffer entries
     pair-within = rw written (within-parts buffer width 0 lists (cleared buffer) (within-zeros buffer) short (omega arith))
 
-    pair-lent : (k : Counters) → n ≡ length (k .placements) → CountersFor (length (k .placements)) k → FragmentPostable (tallyOf first (m .first)) (tallyOf second (m .second)) true width entries k
+    pair-lent : (k : Counters) → n ≡ length (k .placements) → CountersLent (length (k .placements)) k → FragmentPostable (tallyOf first (m .first)) (tallyOf second (m .second)) true width entries k
     pair-lent k e c =
         record {
           counters = c;
@@ -160,10 +160,10 @@ module _ (s : Settings) (ss : List (List ℕ)) (way : Way) (ranked : List ℕ) (
     pub posts : ((n : ℕ) → a ≡ fragments.Refused n → ⊥) → AllPost ranked (answerPostings a first second (4 * shareOf mode P) entries) (byMode mode (sightBooked s ss way first one) (sightBooked s ss way second two))
     pub within : ((n : ℕ) → a ≡ fragments.Refused n → ⊥) → Within buffer entries
 
-  module _ (k : Counters) (e : n ≡ length (k .placements)) (c : CountersFor (length (k .placements)) k) where
+  module _ (k : Counters) (e : n ≡ length (k .placements)) (c : CountersLent (length (k .placements)) k) where
     answer-told : (mode : AuditInputMode) (a : FragmentAnswer)
-        → fragmentOutcome a ≡ outcome (firstOf (sightRoom s ss (shareOf mode P)) (byMode mode one two)) (map (sightRow s ss way) (byMode mode one two))
-        → entries ≡ entriesLeft (firstOf (sightRoom s ss (shareOf mode P)) (byMode mode one two)) (inParts (4 * shareOf mode P) 0 (map (sightEntries s ss ranked) (byMode mode one two)) (cleared buffer)) buffer
+        → fragmentOutcome a ≡ outcome (firstRefusal (sightRoom s ss (shareOf mode P)) (byMode mode one two)) (map (sightRow s ss way) (byMode mode one two))
+        → entries ≡ entriesLeft (firstRefusal (sightRoom s ss (shareOf mode P)) (byMode mode one two)) (inParts (4 * shareOf mode P) 0 (map (sightEntries s ss ranked) (byMode mode one two)) (cleared buffer)) buffer
         → AnswerTold mode k a
     answer-told mode (fragments.Refused m) A E = record { postable = tt; posts = λ ne. absurd (ne m refl); within = λ ne. absurd (ne m refl) }
     answer-told modes.SingleEnd (fragments.Single m) A E =
@@ -218,7 +218,7 @@ module _ (s : Settings) (ss : List (List ℕ)) (way : Way) (ranked : List ℕ) (
 
       module _ (l : Ledger) (r′ : Posted) (posted : AnswerPosted r first second (4 * shareOf (s .mode) P) entries (books l) r′) where
         abbrev refusal : ℕ
-        refusal = rankedRefusal s ss way ranked first second one two l k P
+        refusal = observedRefusal s ss way ranked first second one two l k P
 
         -- there is no room in the books: the answer was accepted, and is refused 17
         full : r′ .fits ≡ false → (((m : ℕ) → r ≡ fragments.Refused m → ⊥) × (refusal ≡ 17))

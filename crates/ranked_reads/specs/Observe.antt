@@ -5,20 +5,17 @@ use mathlib.Core.List.{List, map}
 use Prim.Native.Nat.{ℕ, _*_, _≤_}
 use lib.ListN.{length}
 use Rattle.promises.specs.Refusal.{unless, _orElse_, outcome}
-use Rattle.catalogue.specs.Catalogue.{Catalogue, maxTargets}
 use Rattle.scan.specs.Entries.{entryCount, cleared}
 use Rattle.index_search.specs.Work.{Way}
 use Rattle.answers.specs.Bounds.{limitRight}
 use Rattle.ledger.specs.Booking.{Booked, Counters, bookedAll, countable}
 use Rattle.ledger.specs.Counting.{Ranked}
 use Rattle.ledger.specs.declared.Ledger.{Ledger}
-use Rattle.booking.specs.Books.{CountersFor}
+use Rattle.booking.specs.Books.{CountersLent}
 use Rattle.audit_rules.specs.declared.calls.FragmentAnswer.{FragmentAnswer}
 use Rattle.audit_rules.specs.declared.settings.Settings.{Settings}
-use Rattle.audit_rules.specs.Settings.{Held}
-use Rattle.audit_rules.specs.Opening.{IndexLent}
 use Rattle.audit_rules.specs.Observing.{Sight, sightListed, sightEntries, sightRow}
-use Rattle.audit_rules.specs.Fragment.{Fragment, shareOf, inParts, entriesLeft, fragmentAnswer, fragmentEntries}
+use Rattle.audit_rules.specs.Fragment.{shareOf, inParts, entriesLeft}
 use Rattle.audit_rules.specs.Calls.{fragmentOutcome}
 use Rattle.checking.specs.declared.SearchedReads.{SearchedReads}
 use Rattle.checking.specs.Checks.{byMode}
@@ -31,7 +28,7 @@ pub record RankedLent (indexed : Bool) (q : ℕ) (bases ends ranked ks rs os fir
   pub first-sighted : Sighted (searched .first) first
   pub second-sighted : Sighted (searched .second) second
   pub limit : limitRight (s .limit) ≡ true
-  pub counters : CountersFor (length (k .placements)) k
+  pub counters : CountersLent (length (k .placements)) k
   pub places : Ranked (length (k .placements)) ranked
 
 -- what is booked of a read, with the number of its role
@@ -40,13 +37,13 @@ sightBooked s ss way role r = record { role = role; state = sightRow s ss way r 
 
 module _ (s : Settings) (ss : List (List ℕ)) (way : Way) (ranked : List ℕ) (first second : ℕ) (one two : Sight) (l : Ledger) (k : Counters) where
   -- 10 of each read, then 17
-  abbrev pub rankedRefusal : ℕ → ℕ
-  rankedRefusal entries =
+  abbrev pub observedRefusal : ℕ → ℕ
+  observedRefusal entries =
       roomsRefusal s ss way ranked (byMode (s .mode) one two) entries
       orElse unless (countable (bookedAll ranked (byMode (s .mode) (sightBooked s ss way first one) (sightBooked s ss way second two)) (record { ledger = l; counters = k }))) 17
 
   pub record RankedObserved (r : FragmentAnswer) (buffer buffer′ : List ℕ) : Type 0 where
-    pub answer : fragmentOutcome r ≡ outcome (rankedRefusal (entryCount buffer)) (map (sightRow s ss way) (byMode (s .mode) one two))
+    pub answer : fragmentOutcome r ≡ outcome (observedRefusal (entryCount buffer)) (map (sightRow s ss way) (byMode (s .mode) one two))
     pub entries :
-        buffer′ ≡ entriesLeft (rankedRefusal (entryCount buffer))
+        buffer′ ≡ entriesLeft (observedRefusal (entryCount buffer))
         (inParts (4 * shareOf (s .mode) (entryCount buffer)) 0 (map (sightEntries s ss ranked) (byMode (s .mode) one two)) (cleared buffer)) buffer

@@ -3,13 +3,13 @@
 use mathlib.Core.Path.{_≡_, refl, sym, ap, _∙_, subst}
 use Prim.Native.Nat.{ℕ, zero, suc, _<_, _≤_}
 use borrow.Author.Tests.{lt-leb, le-leb}
-use Rattle.promises.specs.Refusal.{numberOf}
+use Rattle.promises.specs.Refusal.{numberOf, ifPassed}
 use Rattle.promises.proofs.Refusing.{first-stands, number-is}
 use Rattle.catalogue.specs.Catalogue.{Catalogue}
 use Rattle.index.specs.Index.{planRefusal}
 use Rattle.planning.specs.Answers.{planOutcome, planned}
 use Rattle.planning.specs.declared.IndexPlan.{IndexPlan}
-use Rattle.record_room.specs.Room.{ifPassed, RoomChecked}
+use Rattle.record_room.specs.Room.{RoomChecked}
 use Rattle.record_room.specs.declared.Checked.{Checked}
 
 -- where a check refuses, what stands is taken

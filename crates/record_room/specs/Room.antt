@@ -1,10 +1,10 @@
 -- The refusals of a call to which an index is lent as records, in front of `map`'s own (REFERENCE.md, "Mapping").
 use mathlib.Core.Path.{_≡_}
 use mathlib.Core.List.{List}
-use Prim.Native.Nat.{ℕ, zero, suc, min}
+use Prim.Native.Nat.{ℕ, min}
 use lib.ListN.{length}
 use lib.Dec.{leb}
-use Rattle.promises.specs.Refusal.{unless, _orElse_}
+use Rattle.promises.specs.Refusal.{unless, _orElse_, ifPassed}
 use Rattle.catalogue.specs.Catalogue.{Catalogue}
 use Rattle.index.specs.Index.{planRefusal}
 use Rattle.record_room.specs.declared.Checked.{Checked}
@@ -20,11 +20,6 @@ indexRoom records entries = unless (leb records entries) 5
 -- 1 to 5, in front of `map`'s own
 abbrev pub copyRefusal : ℕ → Catalogue → ℕ → ℕ → ℕ
 copyRefusal q c records entries = planRefusal q c orElse indexRoom records entries
-
--- by the refusal of a check: what follows where it is 0, and what stands where it is not
-abbrev pub ifPassed : {A : Type 0} → ℕ → A → A → A
-ifPassed zero follows stands = follows
-ifPassed (suc n) follows stands = stands
 
 -- ---- the check
 

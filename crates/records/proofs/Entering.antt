@@ -8,14 +8,14 @@ use lib.ListN.{length, take, drop, length-map}
 use lib.Dec.{leb}
 use lib.Seq.{take-all, length-take-le}
 use borrow.Author.Tests.{leb-true}
-use Rattle.promises.specs.Refusal.{unless, _orElse_}
+use Rattle.promises.specs.Refusal.{unless, _orElse_, ifPassed}
 use Rattle.promises.proofs.Refusing.{none-second, passed}
 use Rattle.catalogue.specs.Catalogue.{Catalogue}
 use Rattle.answers.specs.declared.answer.MapAnswer.{MapAnswer}
 use Rattle.answers.specs.declared.answer.MapAnswer.the-variants as answers
 use Rattle.indexed_mapper.specs.Map.{MapsTo}
 use Rattle.copying.specs.Records.{keysIn, ranksIn, positionsIn, Fits, Copied}
-use Rattle.record_room.specs.Room.{indexRoom, ifPassed, RoomChecked, CheckedAs, room}
+use Rattle.record_room.specs.Room.{indexRoom, RoomChecked, CheckedAs, room}
 use Rattle.records.specs.Entry.{RowsIn, MapsBy, MapsCopied, MapsFields, MapsRecords}
 use Rattle.copying.specs.declared.SeedPosting.{SeedPosting}
 use Rattle.copying.proofs.Filling.{length-filled}

@@ -3,7 +3,7 @@ use mathlib.Core.Path.{_≡_}
 use mathlib.Core.List.{List, _++_}
 use Prim.Native.Nat.{ℕ, _≤_}
 use lib.ListN.{length, take, drop}
-use Rattle.promises.specs.Refusal.{refused}
+use Rattle.promises.specs.Refusal.{refused, ifPassed}
 use Rattle.catalogue.specs.Catalogue.{Catalogue}
 use Rattle.scan.specs.Entries.{entryCount}
 use Rattle.answers.specs.Answer.{Leaves}
@@ -11,7 +11,7 @@ use Rattle.answers.specs.declared.answer.MapAnswer.{MapAnswer}
 use Rattle.indexed_mapper.specs.Map.{mapAnswer, mapEntries}
 use Rattle.copying.specs.Records.{keysIn, ranksIn, positionsIn}
 use Rattle.copying.specs.declared.SeedPosting.{SeedPosting}
-use Rattle.record_room.specs.Room.{room, copyRefusal, ifPassed}
+use Rattle.record_room.specs.Room.{room, copyRefusal}
 use Rattle.record_room.specs.declared.Checked.{Checked}
 
 -- n rows are in every column

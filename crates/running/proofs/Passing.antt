@@ -21,16 +21,16 @@ use Rattle.index_search.specs.Work.{byIndex}
 use Rattle.ledger.specs.Booking.{Counters}
 use Rattle.ledger.proofs.Booking.{booked-lengths}
 use Rattle.audit_rules.specs.declared.calls.FragmentAudit.{FragmentAudit}
-use Rattle.audit_rules.specs.Settings.{Held, auditSeed, auditOffset, booksOf}
+use Rattle.audit_rules.specs.Settings.{Held, auditSeed, auditOffset, heldBooks}
 use Rattle.audit_rules.specs.Opening.{columns, openingRefusal}
 use Rattle.audit_rules.specs.Fragment.{Fragment, fragmentBooked, fragmentAccepted}
 use Rattle.audit_rules.specs.Calls.{Audits}
 use Rattle.audit_rules.proofs.Opening.{Passed, opening-passed}
 use Rattle.opening.specs.Opens.{OpeningRanked}
-use Rattle.opening.proofs.Opening.{counted}
+use Rattle.ledger.proofs.Booking.{each-counter}
 use Rattle.tested_fragments.specs.Tested.{Tested, TestedAudited}
 use Rattle.fragments.proofs.Opened.{tested, opening-passes}
-use Rattle.sheet_lines.specs.Lent.{NamesLent}
+use Rattle.sheet_lines.specs.Lent.{ShortNames}
 use Rattle.sheet_lines.proofs.Bounding.{names-lent}
 use Rattle.catch_rules.specs.Job.{lentOf}
 use Rattle.running.specs.Running.{Passes, Runs}
@@ -47,7 +47,7 @@ module _ (c : Catalogue) (h : Held) (passes : Passes c h) where
   pub within-bounds : inBounds c ≡ true
   within-bounds = all-passed .catalogue .bounds
 
-  pub named : NamesLent (c .identifiers) (c .identifierEnds)
+  pub named : ShortNames (c .identifiers) (c .identifierEnds)
   named = names-lent c within-bounds
 
   -- each target has a counter of each kind
@@ -56,8 +56,8 @@ module _ (c : Catalogue) (h : Held) (passes : Passes c h) where
 
   pub each-counted : (length (h .counters .placements) ≡ length (c .identifierEnds)) × (length (h .counters .singles) ≡ length (c .identifierEnds)) × (length (h .counters .multi) ≡ length (c .identifierEnds))
   each-counted =
-      let e = counted (length (targets c)) (h .counters) (all-passed .counters) in
-      (e .0 ∙ count-is, e .1 ∙ count-is, e .2 ∙ count-is)
+      let e = each-counter (length (targets c)) (h .counters) (all-passed .counters) in
+      (e .placements ∙ count-is, e .singles ∙ count-is, e .multi ∙ count-is)
 
   -- the checks look at settings, and at how many counters there are
   pub passes-alike : (h′ : Held) → h′ .state .settings ≡ h .state .settings → length (h′ .counters .placements) ≡ length (h .counters .placements)
@@ -68,7 +68,7 @@ module _ (c : Catalogue) (h : Held) (passes : Passes c h) where
   -- so they pass behind an accepted fragment
   pub accepted-passes : (f : Fragment) → Passes c (fragmentAccepted auditSeed auditOffset c (lentOf c) h f)
   accepted-passes f =
-      let l = booked-lengths (suppliedPlaces c) (fragmentBooked auditSeed auditOffset c (lentOf c) h f) (booksOf h) in
+      let l = booked-lengths (suppliedPlaces c) (fragmentBooked auditSeed auditOffset c (lentOf c) h f) (heldBooks h) in
       passes-alike (fragmentAccepted auditSeed auditOffset c (lentOf c) h f) refl (l .placements) (l .singles) (l .multi)
 
 -- ---- what a fragment is lent

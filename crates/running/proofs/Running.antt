@@ -6,7 +6,7 @@ use Prim.Native.Nat.{ℕ, zero, suc, _+_, _*_}
 use native.Mathlib.Omega.{arith}
 use lib.ListN.{length, drop, replicate, length-replicate}
 use lib.Seq.{drop-length}
-use Rattle.promises.specs.Refusal.{Outcome, refused, accepted}
+use Rattle.promises.specs.Refusal.{Outcome, refused, accepted, ifPassed}
 use Rattle.promises.proofs.Refusing.{outcome-accepted, outcome-number}
 use Rattle.catalogue.specs.Catalogue.{Catalogue, names}
 use Rattle.scan.specs.Entries.{entryCount, cleared}
@@ -17,8 +17,8 @@ use Rattle.audit_rules.specs.declared.calls.FragmentAnswer.the-variants as frag
 use Rattle.audit_rules.specs.declared.calls.FragmentAudit.{FragmentAudit}
 use Rattle.audit_rules.specs.Settings.{Held, auditSeed, auditOffset, roleNumber}
 use Rattle.audit_rules.specs.Observing.{MateRead}
-use Rattle.audit_rules.specs.Fragment.{Fragment, shareOf, heldAfter, entriesLeft, fragmentRefusal, fragmentRows, fragmentAccepted, fragmentWritten}
-use Rattle.audit_rules.specs.Calls.{fragmentOutcome, mappingRow, lentReads, Audits}
+use Rattle.audit_rules.specs.Fragment.{Fragment, shareOf, entriesLeft, fragmentRefusal, fragmentRows, fragmentAccepted, fragmentWritten}
+use Rattle.audit_rules.specs.Calls.{fragmentOutcome, mappingRow, fragmentReads, Audits}
 use Rattle.audit_rules.proofs.Booked.{refused-holds}
 use Rattle.stream.specs.Commands.{fragmentIn}
 use Rattle.stream.specs.Telling.{Read}
@@ -50,8 +50,8 @@ others (x ∷ xs) = xs
 
 module _ (ns : List (List ℕ)) (ordinal width : ℕ) (first second : MateRead) (row : MateRead → Row) (entries : List ℕ) where
   -- the lines of an answer are those of the reads that it answers for
-  accepted-lines : (count : ℕ) (answer : FragmentAnswer) → fragmentOutcome answer ≡ accepted (map row (lentReads count first second))
-      → answerLines ns ordinal (roleNumber (first .role)) (roleNumber (second .role)) width answer entries ≡ fragmentLines ns ordinal width (lentReads count first second) (map row (lentReads count first second)) entries
+  accepted-lines : (count : ℕ) (answer : FragmentAnswer) → fragmentOutcome answer ≡ accepted (map row (fragmentReads count first second))
+      → answerLines ns ordinal (roleNumber (first .role)) (roleNumber (second .role)) width answer entries ≡ fragmentLines ns ordinal width (fragmentReads count first second) (map row (fragmentReads count first second)) entries
   accepted-lines count (fragments.Refused n) e = absurd (let z : _≡_ {A = ℕ} 0 1 = cc in omega arith)
   accepted-lines zero (fragments.Single m) e = absurd (let z = ap (λ o. length (rowsIn o)) e in omega arith)
   accepted-lines (suc zero) (fragments.Single m) e =
@@ -114,7 +114,7 @@ module _ (c : Catalogue) (ranked ks rs os : List ℕ) (h : Held) (entries : List
   pub fragment-goes : (rows : List Row) → fragmentOutcome (a .answer) ≡ accepted rows → Goes (running c h) (3 ∷ bytes) lines (running c after) (drop (head .end) bytes) × Passes c after
   fragment-goes rows told =
       let w = outcome-accepted (fragmentRefusal auditSeed auditOffset c (lentOf c) h f (entryCount entries)) _ rows (sym (audits .answer) ∙ told) in
-      let booked : after ≡ fragmentAccepted auditSeed auditOffset c (lentOf c) h f = audits .held ∙ ap (λ n. heldAfter n (fragmentAccepted auditSeed auditOffset c (lentOf c) h f) h) (w .0) in
+      let booked : after ≡ fragmentAccepted auditSeed auditOffset c (lentOf c) h f = audits .held ∙ ap (λ n. ifPassed n (fragmentAccepted auditSeed auditOffset c (lentOf c) h f) h) (w .0) in
       let left : entries′ ≡ fragmentWritten auditSeed auditOffset c (lentOf c) h f (replicate (4 * streamEntries) 0) =
       audits .left ∙ ap (λ n. entriesLeft n (fragmentWritten auditSeed auditOffset c (lentOf c) h f entries) entries) (w .0) ∙ written-anew c h f streamEntries entries (replicate (4 * streamEntries) 0) (lent .whole) (length-replicate {A = ℕ} (4 * streamEntries) 0) in
       let text : lines ≡ linesOf c h f =

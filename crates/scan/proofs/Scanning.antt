@@ -9,7 +9,7 @@ use lib.Seq.{take-all}
 use Rattle.seeds.specs.Window.{starts}
 use Rattle.catalogue.specs.Catalogue.{maxTargets, maxBases}
 use Rattle.places.specs.Place.{Place, place, placesIn, placesFrom, places}
-use Rattle.scan.specs.Searched.{maxCount, maxPlaces, Going, Searched}
+use Rattle.scan.specs.Searched.{maxPlaces, Going, Searched}
 use Rattle.scan.proofs.Going.{Progress, progress-none, progress-length, progress-going, progress-more, progress-stop}
 
 -- ---- places, one start and one rank more

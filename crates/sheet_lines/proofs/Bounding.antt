@@ -12,7 +12,7 @@ use Rattle.lists.proofs.Cases.{by-test, and-true}
 use Rattle.lists.proofs.Every.{every-at}
 use Rattle.catalogue.specs.Catalogue.{Catalogue, names, maxIdentifier, countsRight, endsRight, valuesRight, lengthsWithin, marksRight, inBounds}
 use Rattle.catalogue.proofs.Checks.{bounded}
-use Rattle.sheet_lines.specs.Lent.{NamesLent}
+use Rattle.sheet_lines.specs.Lent.{ShortNames}
 
 -- a name at any place is within a bound that every name is within
 short-at : (most : ℕ) (ns : List (List ℕ)) → lengthsWithin most ns ≡ true → (i : ℕ) → length (getD ns i []) ≤ most
@@ -22,7 +22,7 @@ short-at most ns e i =
     (λ f. rw (List·getD-eq-default ns [] (ltb-false i (length ns) f)) (omega arith))
 
 module _ (c : Catalogue) (within : inBounds c ≡ true) where
-  pub names-lent : NamesLent (c .identifiers) (c .identifierEnds)
+  pub names-lent : ShortNames (c .identifiers) (c .identifierEnds)
   unfolding inBounds
   names-lent =
       let w = and-true (countsRight c && endsRight c) (valuesRight c) within in

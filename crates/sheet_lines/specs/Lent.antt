@@ -25,7 +25,7 @@ abbrev pub countsRoom : ℕ
 countsRoom = 1280
 
 -- names, none longer than an identifier may be
-pub record NamesLent (identifiers ends : List ℕ) : Type 0 where
+pub record ShortNames (identifiers ends : List ℕ) : Type 0 where
   pub right : EndsRight identifiers ends
   pub short : (i : ℕ) → length (getD (cut ends identifiers) i []) ≤ maxIdentifier
 
@@ -37,13 +37,13 @@ entryLine names entries i = groupLine (getD names (getD entries (i * 4) 0) []) (
 
 -- the entry is there, and its target has a name
 pub record EntryLent (identifiers ends entries : List ℕ) (i : ℕ) : Type 0 where
-  pub named : NamesLent identifiers ends
+  pub named : ShortNames identifiers ends
   pub listed : i * 4 + 4 ≤ length entries
   pub placed : getD entries (i * 4) 0 < length ends
 
 -- and so are the first n
 pub record EntriesLent (identifiers ends entries : List ℕ) (n : ℕ) : Type 0 where
-  pub named : NamesLent identifiers ends
+  pub named : ShortNames identifiers ends
   pub listed : n * 4 ≤ length entries
   pub placed : (i : ℕ) → i < n → getD entries (i * 4) 0 < length ends
 
@@ -61,7 +61,7 @@ placeLines status k names marks (suc n) = placeLines status k names marks n ++ p
 
 -- each of n targets has a name, a mark and counters
 pub record TargetsLent (identifiers ends marks placements singles multi : List ℕ) (n : ℕ) : Type 0 where
-  pub named : NamesLent identifiers ends
+  pub named : ShortNames identifiers ends
   pub ended : n ≤ length ends
   pub marked : n ≤ length marks
   pub placed : n ≤ length placements

@@ -16,7 +16,7 @@ use Rattle.audit_rules.specs.declared.calls.FragmentAnswer.{FragmentAnswer}
 use Rattle.audit_rules.specs.declared.calls.FragmentAnswer.the-variants as fragments
 use Rattle.audit_rules.specs.declared.calls.Mates.{Mates}
 use Rattle.audit_rules.specs.declared.settings.LastOrdinal.the-variants as ordinals
-use Rattle.audit_rules.specs.Settings.{Held, booksOf}
+use Rattle.audit_rules.specs.Settings.{Held, heldBooks}
 use Rattle.tallies.specs.Answers.{tallyOf, answerPostings, answerBooked, AnswerPostable, AnswerPosted, CountersReady, AnswerRaisable}
 
 module _ (answer : FragmentAnswer) (first second width : ℕ) (entries : List ℕ) where
@@ -70,21 +70,21 @@ module _ (answer : FragmentAnswer) (first second width : ℕ) (entries : List �
 
   -- the counters have room
   pub answer-ready : CountersReady answer first second width entries (h .counters)
-  answer-ready = record { postable = p .postable; fits = sym (ap countersSmall (posted-counters xs (booksOf h))) ∙ counters-small (postedAll xs (booksOf h)) (p .fits) }
+  answer-ready = record { postable = p .postable; fits = sym (ap countersSmall (posted-counters xs (heldBooks h))) ∙ counters-small (postedAll xs (heldBooks h)) (p .fits) }
 
   -- the ledger that was posted is the one with the reads
-  pub answer-ledger : (r : Posted) → AnswerPosted answer first second width entries (booksOf h) r → r .ledger ≡ postedAll xs (booksOf h) .ledger
+  pub answer-ledger : (r : Posted) → AnswerPosted answer first second width entries (heldBooks h) r → r .ledger ≡ postedAll xs (heldBooks h) .ledger
   answer-ledger r q = go answer (p .accepted) (p .fits) q
     where
-      go : (a : FragmentAnswer) → ((n : ℕ) → a ≡ fragments.Refused n → ⊥) → booksSmall (postedAll (answerPostings a first second width entries) (booksOf h)) ≡ true
-          → AnswerPosted a first second width entries (booksOf h) r → r .ledger ≡ postedAll (answerPostings a first second width entries) (booksOf h) .ledger
+      go : (a : FragmentAnswer) → ((n : ℕ) → a ≡ fragments.Refused n → ⊥) → booksSmall (postedAll (answerPostings a first second width entries) (heldBooks h)) ≡ true
+          → AnswerPosted a first second width entries (heldBooks h) r → r .ledger ≡ postedAll (answerPostings a first second width entries) (heldBooks h) .ledger
       go (fragments.Refused n) ne t q = absurd (ne n refl)
       go (fragments.Single m) ne t q = q .ledger (q .fits ∙ t)
       go (fragments.Paired m) ne t q = q .ledger (q .fits ∙ t)
 
   -- state and counters
-  pub answer-held : (ordinal : ℕ) (l : Ledger) (k : Counters) → l ≡ postedAll xs (booksOf h) .ledger → k ≡ countersPosted xs (h .counters)
+  pub answer-held : (ordinal : ℕ) (l : Ledger) (k : Counters) → l ≡ postedAll xs (heldBooks h) .ledger → k ≡ countersPosted xs (h .counters)
       → record { state = record { settings = h .state .settings; last = ordinals.Accepted ordinal; ledger = l }; counters = k } ≡ answerBooked ordinal xs h
   answer-held ordinal l k e f =
-      let g : k ≡ postedAll xs (booksOf h) .counters = f ∙ sym (posted-counters xs (booksOf h)) in
+      let g : k ≡ postedAll xs (heldBooks h) .counters = f ∙ sym (posted-counters xs (heldBooks h)) in
       λ i. record { state = record { settings = h .state .settings; last = ordinals.Accepted ordinal; ledger = e i }; counters = g i }

@@ -12,7 +12,7 @@ use Rattle.booking.specs.Books.{Posting, postings, postedAll, countersPosted, c
 use Rattle.audit_rules.specs.declared.calls.FragmentAnswer.{FragmentAnswer}
 use Rattle.audit_rules.specs.declared.calls.FragmentAnswer.the-variants as fragments
 use Rattle.audit_rules.specs.declared.settings.LastOrdinal.the-variants as ordinals
-use Rattle.audit_rules.specs.Settings.{Held, booksOf}
+use Rattle.audit_rules.specs.Settings.{Held, heldBooks}
 
 -- a read with the number of its role
 abbrev pub tallyOf : ℕ → Mapping → ReadTally
@@ -45,12 +45,12 @@ pub record CountersReady (answer : FragmentAnswer) (first second width : ℕ) (e
 pub record AnswerRaisable (answer : FragmentAnswer) (first second width : ℕ) (entries : List ℕ) (h : Held) : Type 0 where
   pub accepted : (n : ℕ) → answer ≡ fragments.Refused n → ⊥
   pub postable : AnswerPostable answer first second width entries (h .counters)
-  pub fits : booksSmall (postedAll (answerPostings answer first second width entries) (booksOf h)) ≡ true
+  pub fits : booksSmall (postedAll (answerPostings answer first second width entries) (heldBooks h)) ≡ true
 
 -- what is held with the reads booked, and their ordinal the last
 abbrev pub answerBooked : ℕ → List Posting → Held → Held
 answerBooked ordinal xs h =
     record {
-      state = record { settings = h .state .settings; last = ordinals.Accepted ordinal; ledger = postedAll xs (booksOf h) .ledger };
-      counters = postedAll xs (booksOf h) .counters;
+      state = record { settings = h .state .settings; last = ordinals.Accepted ordinal; ledger = postedAll xs (heldBooks h) .ledger };
+      counters = postedAll xs (heldBooks h) .counters;
     }

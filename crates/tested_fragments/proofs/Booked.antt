@@ -7,24 +7,24 @@ use Prim.Native.Nat.{ℕ, _*_}
 use lib.ListN.{length}
 use types.Run.{OneOf, miss}
 use denote.Enum.Declared.{tagOf}
-use Rattle.promises.specs.Refusal.{outcome}
+use Rattle.promises.specs.Refusal.{outcome, ifPassed}
 use Rattle.promises.proofs.Refusing.{outcome-number}
 use Rattle.scan.specs.Entries.{entryCount, cleared}
 use Rattle.index_search.specs.Work.{Way}
 use Rattle.answers.specs.Bounds.{limitRight}
 use Rattle.ledger.specs.Booking.{Books, Counters, bookedAll}
 use Rattle.ledger.specs.Counting.{Ranked}
-use Rattle.booking.specs.Books.{CountersFor, postedAll, booksSmall}
+use Rattle.booking.specs.Books.{CountersLent, postedAll, booksSmall}
 use Rattle.audit_rules.specs.declared.calls.FragmentAnswer.{FragmentAnswer}
 use Rattle.audit_rules.specs.declared.calls.FragmentAnswer.the-variants as fragments
 use Rattle.audit_rules.proofs.calls.FragmentAnswer.{the-type}
 use Rattle.audit_rules.specs.declared.settings.AuditState.{AuditState}
 use Rattle.audit_rules.specs.declared.settings.LastOrdinal.the-variants as ordinals
 use Rattle.audit_rules.specs.declared.settings.Settings.{Settings}
-use Rattle.audit_rules.specs.Settings.{Held, booksOf, roleNumber}
+use Rattle.audit_rules.specs.Settings.{Held, heldBooks, roleNumber}
 use Rattle.audit_rules.specs.Observing.{MateRead, Sight, sightOf, sightRoom, sightEntries, sightRow, mateRow, mateEntries, mateBooked}
-use Rattle.audit_rules.specs.Fragment.{Fragment, firstOf, shareOf, inParts, entriesLeft, testedBooks, testedRefusal, testedRows, testedAccepted, heldAfter}
-use Rattle.audit_rules.specs.Calls.{fragmentOutcome, lentReads, fragmentOf}
+use Rattle.audit_rules.specs.Fragment.{Fragment, firstRefusal, shareOf, inParts, entriesLeft, testedBooks, testedRefusal, testedRows, testedAccepted}
+use Rattle.audit_rules.specs.Calls.{fragmentOutcome, fragmentReads, fragmentOf}
 use Rattle.audit_rules.proofs.Checking.{TestedChecked, tested-checked}
 use Rattle.audit_rules.proofs.Booked.{few-roles, refused-holds}
 use Rattle.checking.specs.Checks.{byMode}
@@ -69,7 +69,7 @@ module _ (offset : ℕ) (ss : List (List ℕ)) (way : Way) (ranked : List ℕ) (
     checked : TestedChecked offset ss way ranked h f (entryCount buffer)
     checked = tested-checked offset ss way ranked h f (entryCount buffer) unrefused
 
-    reads-are : lentReads count m m′ ≡ byMode (s .mode) m m′
+    reads-are : fragmentReads count m m′ ≡ byMode (s .mode) m m′
     reads-are = reads-by-mode (s .mode) count m m′ (sym (roles-same (s .mode) count m m′) ∙ checked .roles)
 
     abbrev one : Sight
@@ -82,7 +82,7 @@ module _ (offset : ℕ) (ss : List (List ℕ)) (way : Way) (ranked : List ℕ) (
     rooms = roomsRefusal s ss way ranked (byMode (s .mode) one two) (entryCount buffer)
 
     rooms-pass : rooms ≡ 0
-    rooms-pass = rooms-same offset s m m′ one two refl (λ e. refl) (sightRoom s ss (shareOf (s .mode) (entryCount buffer))) ∙ ap (firstOf _) (sym reads-are) ∙ checked .rooms
+    rooms-pass = rooms-same offset s m m′ one two refl (λ e. refl) (sightRoom s ss (shareOf (s .mode) (entryCount buffer))) ∙ ap (firstRefusal _) (sym reads-are) ∙ checked .rooms
 
     -- its reads were observed
     reads-seen : ReadsObserved s ss way ranked (byMode (s .mode) one two) r buffer entries
@@ -95,7 +95,7 @@ module _ (offset : ℕ) (ss : List (List ℕ)) (way : Way) (ranked : List ℕ) (
               (ap (map (mateEntries offset s ss ranked)) reads-are ∙ sym (by-mates offset s m m′ one two refl (λ e. refl) (sightEntries s ss ranked)));
         }
 
-    module _ (limit : limitRight (s .limit) ≡ true) (counters : CountersFor (length (h .counters .placements)) (h .counters)) (places : Ranked (length (h .counters .placements)) ranked)
+    module _ (limit : limitRight (s .limit) ≡ true) (counters : CountersLent (length (h .counters .placements)) (h .counters)) (places : Ranked (length (h .counters .placements)) ranked)
         (many : length ranked ≡ length ss) (w : ℕ) (share : w ≡ shareOf (s .mode) (entryCount buffer)) where
       of-answer : AnswerTold s ss way ranked (roleNumber (m .role)) (roleNumber (m′ .role)) one two buffer entries (length (h .counters .placements)) places many limit (few-roles (m .role), few-roles (m′ .role)) (s .mode) (h .counters) r
       of-answer =
@@ -103,11 +103,11 @@ module _ (offset : ℕ) (ss : List (List ℕ)) (way : Way) (ranked : List ℕ) (
           (h .counters) refl counters r reads-seen
 
       -- what is posted are the books with its reads
-      posted-is : postedAll (answerPostings r (roleNumber (m .role)) (roleNumber (m′ .role)) (4 * w) entries) (booksOf h) ≡ testedBooks offset ss way ranked h f
+      posted-is : postedAll (answerPostings r (roleNumber (m .role)) (roleNumber (m′ .role)) (4 * w) entries) (heldBooks h) ≡ testedBooks offset ss way ranked h f
       posted-is =
-          ap (λ z. postedAll (answerPostings r (roleNumber (m .role)) (roleNumber (m′ .role)) (4 * z) entries) (booksOf h)) share
-          ∙ posted-all ranked (answerPostings r (roleNumber (m .role)) (roleNumber (m′ .role)) (4 * shareOf (s .mode) (entryCount buffer)) entries) (byMode (s .mode) (sightBooked s ss way (roleNumber (m .role)) one) (sightBooked s ss way (roleNumber (m′ .role)) two)) (of-answer .posts accepted) (booksOf h)
-          ∙ ap (λ l. bookedAll ranked l (booksOf h)) (booked-same offset s m m′ one two refl (λ e. refl) ss way ∙ ap (map (mateBooked offset s ss way)) (sym reads-are))
+          ap (λ z. postedAll (answerPostings r (roleNumber (m .role)) (roleNumber (m′ .role)) (4 * z) entries) (heldBooks h)) share
+          ∙ posted-all ranked (answerPostings r (roleNumber (m .role)) (roleNumber (m′ .role)) (4 * shareOf (s .mode) (entryCount buffer)) entries) (byMode (s .mode) (sightBooked s ss way (roleNumber (m .role)) one) (sightBooked s ss way (roleNumber (m′ .role)) two)) (of-answer .posts accepted) (heldBooks h)
+          ∙ ap (λ l. bookedAll ranked l (heldBooks h)) (booked-same offset s m m′ one two refl (λ e. refl) ss way ∙ ap (map (mateBooked offset s ss way)) (sym reads-are))
 
       -- there is room for them
       pub raisable : AnswerRaisable r (roleNumber (m .role)) (roleNumber (m′ .role)) (4 * w) entries h
@@ -124,5 +124,5 @@ module _ (offset : ℕ) (ss : List (List ℕ)) (way : Way) (ranked : List ℕ) (
       audit-booked state k e =
           record {
             observed = seen;
-            held = e ∙ ap {B = Held} (λ (b : Books). record { state = record { settings = s; last = ordinals.Accepted ordinal; ledger = b .ledger }; counters = b .counters }) posted-is ∙ ap (λ n. heldAfter n (testedAccepted offset ss way ranked h f) h) (sym unrefused);
+            held = e ∙ ap {B = Held} (λ (b : Books). record { state = record { settings = s; last = ordinals.Accepted ordinal; ledger = b .ledger }; counters = b .counters }) posted-is ∙ ap (λ n. ifPassed n (testedAccepted offset ss way ranked h f) h) (sym unrefused);
           }

@@ -10,7 +10,7 @@ use lib.Dec.{eqb, leb, ltb}
 use borrow.Author.Tests.{ne-eqb}
 use Rattle.lists.proofs.Cases.{and-true}
 use Rattle.lists.specs.Same.{same}
-use Rattle.promises.specs.Refusal.{unless, _orElse_, refused}
+use Rattle.promises.specs.Refusal.{unless, _orElse_}
 use Rattle.bases.specs.Read.{Read, Qualities, absent, given, letters}
 use Rattle.bases.specs.Eligibility.{Verdict, ineligible, eligible, _then_, lastQuality, emptyTest, lengthTest, qualityTest, qualitiesTest, givenTest, basesTest, eligibility}
 use Rattle.bases.specs.Eligibility as judged
@@ -20,8 +20,8 @@ use Rattle.audit_rules.specs.declared.settings.AuditInputMode.{AuditInputMode}
 use Rattle.audit_rules.specs.declared.settings.AuditInputMode.the-variants as modes
 use Rattle.audit_rules.specs.Settings.{roleNumber, rolesOf}
 use Rattle.audit_rules.specs.Observing.{MateRead, verdictRefusal, mateRefusal}
-use Rattle.audit_rules.specs.Fragment.{firstOf, rolesRight, entriesLeft}
-use Rattle.audit_rules.specs.Calls.{lentReads}
+use Rattle.audit_rules.specs.Fragment.{firstRefusal, rolesRight, entriesLeft}
+use Rattle.audit_rules.specs.Calls.{fragmentReads}
 use Rattle.checking.specs.Checks.{byMode}
 use Rattle.ordering.specs.Order.{lentRoles, rolesFit}
 
@@ -32,7 +32,7 @@ untouched (suc n) a c d w b = rw (ne-eqb (suc n) 10 c, ne-eqb (suc n) 17 d)
 
 -- ---- roles and the reads that are lent
 
-roles-lent : (n : ℕ) (first second : MateRead) → map (λ (r : MateRead). roleNumber (r .role)) (lentReads n first second) ≡ lentRoles n (roleNumber (first .role)) (roleNumber (second .role))
+roles-lent : (n : ℕ) (first second : MateRead) → map (λ (r : MateRead). roleNumber (r .role)) (fragmentReads n first second) ≡ lentRoles n (roleNumber (first .role)) (roleNumber (second .role))
 roles-lent zero first second = refl
 roles-lent (suc n) first second = ap {B = List ℕ} (λ l. roleNumber (first .role) ∷ l) (go n)
   where
@@ -41,11 +41,11 @@ roles-lent (suc n) first second = ap {B = List ℕ} (λ l. roleNumber (first .ro
     go (suc m) = ap {B = List ℕ} (λ l. roleNumber (second .role) ∷ l) (go m)
 
 -- the roles that are tested are those of the reads
-pub roles-same : (mode : AuditInputMode) (n : ℕ) (first second : MateRead) → rolesRight mode (lentReads n first second) ≡ rolesFit mode n (roleNumber (first .role)) (roleNumber (second .role))
+pub roles-same : (mode : AuditInputMode) (n : ℕ) (first second : MateRead) → rolesRight mode (fragmentReads n first second) ≡ rolesFit mode n (roleNumber (first .role)) (roleNumber (second .role))
 roles-same mode n first second = ap (λ l. same l (rolesOf mode)) (roles-lent n first second)
 
 -- where they are right there is one read, or there are two, by mode
-pub reads-by-mode : (mode : AuditInputMode) (n : ℕ) (first second : MateRead) → rolesFit mode n (roleNumber (first .role)) (roleNumber (second .role)) ≡ true → lentReads n first second ≡ byMode mode first second
+pub reads-by-mode : (mode : AuditInputMode) (n : ℕ) (first second : MateRead) → rolesFit mode n (roleNumber (first .role)) (roleNumber (second .role)) ≡ true → fragmentReads n first second ≡ byMode mode first second
 reads-by-mode modes.SingleEnd zero first second e = absurd (true≢false (sym e))
 reads-by-mode modes.SingleEnd (suc zero) first second e = refl
 reads-by-mode modes.SingleEnd (suc (suc n)) first second e = absurd (true≢false (sym (and-true (eqb (roleNumber (first .role)) 0) false e .1)))
@@ -111,6 +111,6 @@ other-mate offset s m = other-first (unless (lengthRight (m .read .bases)) 7) _ 
     go true = other-verdict (s .floor) offset (m .read)
     go false = (λ e. omega arith, λ e. omega arith)
 
-pub other-reads : (offset : ℕ) (s : Settings) (ms : List MateRead) → Other (firstOf (mateRefusal offset s) ms)
+pub other-reads : (offset : ℕ) (s : Settings) (ms : List MateRead) → Other (firstRefusal (mateRefusal offset s) ms)
 other-reads offset s [] = (λ e. omega arith, λ e. omega arith)
-other-reads offset s (m ∷ ms) = other-first (mateRefusal offset s m) (firstOf (mateRefusal offset s) ms) (other-mate offset s m) (other-reads offset s ms)
+other-reads offset s (m ∷ ms) = other-first (mateRefusal offset s m) (firstRefusal (mateRefusal offset s) ms) (other-mate offset s m) (other-reads offset s ms)

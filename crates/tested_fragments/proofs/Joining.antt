@@ -15,13 +15,13 @@ use Rattle.audit_rules.specs.declared.calls.FragmentAnswer.the-variants as frag
 use Rattle.audit_rules.specs.declared.settings.AuditInputMode.{AuditInputMode}
 use Rattle.audit_rules.specs.declared.settings.AuditInputMode.the-variants as modes
 use Rattle.audit_rules.specs.declared.settings.Settings.{Settings}
-use Rattle.audit_rules.specs.Settings.{Held, booksOf, roleNumber}
+use Rattle.audit_rules.specs.Settings.{Held, heldBooks, roleNumber}
 use Rattle.audit_rules.specs.Observing.{MateRead, Sight, sightOf, sightRoom, sightEntries, sightRow, mateRefusal, mateRoom, mateRow, mateBooked, mateEntries}
-use Rattle.audit_rules.specs.Fragment.{Fragment, inOrder, firstOf, shareOf, inParts, entriesLeft, testedBooks, testedRefusal, testedRows, testedWritten}
-use Rattle.audit_rules.specs.Calls.{fragmentOutcome, lentReads, fragmentOf}
+use Rattle.audit_rules.specs.Fragment.{Fragment, inOrder, firstRefusal, shareOf, inParts, entriesLeft, testedBooks, testedRefusal, testedRows, testedWritten}
+use Rattle.audit_rules.specs.Calls.{fragmentOutcome, fragmentReads, fragmentOf}
 use Rattle.checking.specs.Checks.{byMode}
 use Rattle.ordering.specs.Order.{orderRefusal, rolesFit}
-use Rattle.ranked_reads.specs.Observe.{sightBooked, rankedRefusal, RankedObserved}
+use Rattle.ranked_reads.specs.Observe.{sightBooked, observedRefusal, RankedObserved}
 use Rattle.tested_fragments.specs.Tested.{TestedObserved}
 use Rattle.tested_fragments.proofs.Chain.{untouched, roles-same, reads-by-mode, Other, other-reads}
 
@@ -35,10 +35,10 @@ module _ (offset : ℕ) (s : Settings) (m m′ : MateRead) (one two : Sight) (fi
       go modes.SingleEnd e = ap {B = List A} (λ z. g z ∷ []) first-is
       go modes.PairedEnd e = ap₂ {C = List A} (λ y z. g y ∷ g z ∷ []) first-is (e refl)
 
-  pub rooms-same : (g : Sight → ℕ) → firstOf g (byMode (s .mode) one two) ≡ firstOf (λ (r : MateRead). g (sightOf offset s r)) (byMode (s .mode) m m′)
+  pub rooms-same : (g : Sight → ℕ) → firstRefusal g (byMode (s .mode) one two) ≡ firstRefusal (λ (r : MateRead). g (sightOf offset s r)) (byMode (s .mode) m m′)
   rooms-same g = go (s .mode) second-is
     where
-      go : (mode : AuditInputMode) → (mode ≡ modes.PairedEnd → two ≡ sightOf offset s m′) → firstOf g (byMode mode one two) ≡ firstOf (λ (r : MateRead). g (sightOf offset s r)) (byMode mode m m′)
+      go : (mode : AuditInputMode) → (mode ≡ modes.PairedEnd → two ≡ sightOf offset s m′) → firstRefusal g (byMode mode one two) ≡ firstRefusal (λ (r : MateRead). g (sightOf offset s r)) (byMode mode m m′)
       go modes.SingleEnd e = ap (λ z. g z orElse 0) first-is
       go modes.PairedEnd e = ap₂ (λ y z. g y orElse g z orElse 0) first-is (e refl)
 
@@ -63,11 +63,11 @@ module _ (offset : ℕ) (ss : List (List ℕ)) (way : Way) (ranked : List ℕ) (
 
   -- 10 and 17
   abbrev rooms : ℕ
-  rooms = firstOf (mateRoom offset s ss (shareOf (s .mode) (entryCount buffer))) (lentReads count m m′) orElse unless (countable (testedBooks offset ss way ranked h f)) 17
+  rooms = firstRefusal (mateRoom offset s ss (shareOf (s .mode) (entryCount buffer))) (fragmentReads count m m′) orElse unless (countable (testedBooks offset ss way ranked h f)) 17
 
   -- the checks of the reads, and 17
   abbrev rest : ℕ
-  rest = firstOf (mateRefusal offset s) (lentReads count m m′) orElse rooms
+  rest = firstRefusal (mateRefusal offset s) (fragmentReads count m m′) orElse rooms
 
   abbrev twelve : ℕ
   twelve = unless (inOrder (h .state .last) ordinal) 12
@@ -105,7 +105,7 @@ module _ (offset : ℕ) (ss : List (List ℕ)) (way : Way) (ranked : List ℕ) (
 
   module _ (ordered : order ≡ 0) where
     -- the reads are those of the mode
-    reads-are : lentReads count m m′ ≡ byMode (s .mode) m m′
+    reads-are : fragmentReads count m m′ ≡ byMode (s .mode) m m′
     reads-are =
         reads-by-mode (s .mode) count m m′
         (passed (rolesFit (s .mode) count (roleNumber (m .role)) (roleNumber (m′ .role))) 13 (λ z. omega arith) (none-second (unless (inOrder (h .state .last) ordinal) 12) _ ordered))
@@ -115,15 +115,15 @@ module _ (offset : ℕ) (ss : List (List ℕ)) (way : Way) (ranked : List ℕ) (
     rest-is = chain ∙ grouped twelve thirteen rest ∙ ap (λ z. z orElse rest) ordered
 
     -- 7 or 14 to 16
-    pub by-reads : (n : ℕ) → firstOf (mateRefusal offset s) (byMode (s .mode) m m′) ≡ n → (n ≡ 0 → ⊥) → Observed (fragments.Refused n) buffer
+    pub by-reads : (n : ℕ) → firstRefusal (mateRefusal offset s) (byMode (s .mode) m m′) ≡ n → (n ≡ 0 → ⊥) → Observed (fragments.Refused n) buffer
     by-reads n e ne =
-        let g : firstOf (mateRefusal offset s) (lentReads count m m′) ≡ n = ap (firstOf (mateRefusal offset s)) reads-are ∙ e in
-        stays n (rest-is ∙ stands n _ rooms ne g) ne (subst Other g (other-reads offset s (lentReads count m m′)))
+        let g : firstRefusal (mateRefusal offset s) (fragmentReads count m m′) ≡ n = ap (firstRefusal (mateRefusal offset s)) reads-are ∙ e in
+        stays n (rest-is ∙ stands n _ rooms ne g) ne (subst Other g (other-reads offset s (fragmentReads count m m′)))
 
     -- observed
-    module _ (checked : firstOf (mateRefusal offset s) (byMode (s .mode) m m′) ≡ 0) where
+    module _ (checked : firstRefusal (mateRefusal offset s) (byMode (s .mode) m m′) ≡ 0) where
       rooms-are : testedRefusal offset ss way ranked h f (entryCount buffer) ≡ rooms
-      rooms-are = rest-is ∙ ap (λ z. z orElse rooms) (ap (firstOf (mateRefusal offset s)) reads-are ∙ checked)
+      rooms-are = rest-is ∙ ap (λ z. z orElse rooms) (ap (firstRefusal (mateRefusal offset s)) reads-are ∙ checked)
 
       -- said of the reads by mode
       abbrev Seen : List MateRead → FragmentAnswer → List ℕ → Type 0
@@ -131,21 +131,21 @@ module _ (offset : ℕ) (ss : List (List ℕ)) (way : Way) (ranked : List ℕ) (
           (fragmentOutcome r ≡ outcome (refusalOf reads) (map (mateRow offset s ss way) reads)) × (b ≡ entriesLeft (refusalOf reads) (inParts (4 * shareOf (s .mode) (entryCount buffer)) 0 (map (mateEntries offset s ss ranked) reads) (cleared buffer)) buffer)
         where
           refusalOf : List MateRead → ℕ
-          refusalOf ms = firstOf (mateRoom offset s ss (shareOf (s .mode) (entryCount buffer))) ms orElse unless (countable (bookedAll ranked (map (mateBooked offset s ss way) ms) (booksOf h))) 17
+          refusalOf ms = firstRefusal (mateRoom offset s ss (shareOf (s .mode) (entryCount buffer))) ms orElse unless (countable (bookedAll ranked (map (mateBooked offset s ss way) ms) (heldBooks h))) 17
 
       as-seen : (r : FragmentAnswer) (b : List ℕ) → Seen (byMode (s .mode) m m′) r b → Observed r b
       as-seen r b seen =
-          let z : Seen (lentReads count m m′) r b = subst (λ (l : List MateRead). Seen l r b) (sym reads-are) seen in
+          let z : Seen (fragmentReads count m m′) r b = subst (λ (l : List MateRead). Seen l r b) (sym reads-are) seen in
           record { answer = z .0 ∙ ap (λ n. outcome n (testedRows offset ss way ranked h f)) (sym rooms-are); left = z .1 ∙ ap (λ n. entriesLeft n (testedWritten offset ss way ranked h f buffer) buffer) (sym rooms-are) }
 
       -- the same said of what was checked of them
       module _ (one two : Sight) (first-is : one ≡ sightOf offset s m) (second-is : s .mode ≡ modes.PairedEnd → two ≡ sightOf offset s m′) where
         abbrev number : ℕ
-        number = rankedRefusal s ss way ranked (roleNumber (m .role)) (roleNumber (m′ .role)) one two (h .state .ledger) (h .counters) (entryCount buffer)
+        number = observedRefusal s ss way ranked (roleNumber (m .role)) (roleNumber (m′ .role)) one two (h .state .ledger) (h .counters) (entryCount buffer)
 
-        number-is : number ≡ (firstOf (mateRoom offset s ss (shareOf (s .mode) (entryCount buffer))) (byMode (s .mode) m m′) orElse unless (countable (bookedAll ranked (map (mateBooked offset s ss way) (byMode (s .mode) m m′)) (booksOf h))) 17)
+        number-is : number ≡ (firstRefusal (mateRoom offset s ss (shareOf (s .mode) (entryCount buffer))) (byMode (s .mode) m m′) orElse unless (countable (bookedAll ranked (map (mateBooked offset s ss way) (byMode (s .mode) m m′)) (heldBooks h))) 17)
         number-is =
-            ap₂ (λ x l. x orElse unless (countable (bookedAll ranked l (booksOf h))) 17) (rooms-same offset s m m′ one two first-is second-is (sightRoom s ss (shareOf (s .mode) (entryCount buffer)))) (booked-same offset s m m′ one two first-is second-is ss way)
+            ap₂ (λ x l. x orElse unless (countable (bookedAll ranked l (heldBooks h))) 17) (rooms-same offset s m m′ one two first-is second-is (sightRoom s ss (shareOf (s .mode) (entryCount buffer)))) (booked-same offset s m m′ one two first-is second-is ss way)
 
         -- so it was observed as a whole
         pub by-ranked : (r : FragmentAnswer) (b : List ℕ) → RankedObserved s ss way ranked (roleNumber (m .role)) (roleNumber (m′ .role)) one two (h .state .ledger) (h .counters) r buffer b → Observed r b

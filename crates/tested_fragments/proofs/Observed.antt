@@ -26,7 +26,7 @@ use Rattle.audit_rules.specs.declared.settings.AuditInputMode.the-variants as m
 use Rattle.audit_rules.specs.declared.settings.Settings.{Settings}
 use Rattle.audit_rules.specs.Settings.{Held, roleNumber}
 use Rattle.audit_rules.specs.Observing.{MateRead, isEligible, sightRow, mateRefusal, isSearched}
-use Rattle.audit_rules.specs.Fragment.{firstOf}
+use Rattle.audit_rules.specs.Fragment.{firstRefusal}
 use Rattle.audit_rules.specs.Calls.{fragmentOf}
 use Rattle.checking.specs.Checks.{byMode, ifPaired, checksOutcome}
 use Rattle.checking.specs.declared.SearchedReads.{SearchedReads}
@@ -34,7 +34,7 @@ use Rattle.checking.specs.declared.ReadsCheck.{ReadsCheck}
 use Rattle.checking.specs.declared.ReadsCheck.the-variants as pairs
 use Rattle.sighting.specs.Sights.{wayIf, Sighted, sight}
 use Rattle.ordering.specs.Order.{orderRefusal}
-use Rattle.ranked_reads.specs.Observe.{rankedRefusal, RankedLent, RankedObserved}
+use Rattle.ranked_reads.specs.Observe.{observedRefusal, RankedLent, RankedObserved}
 use Rattle.tested_fragments.specs.Tested.{Tested, TestedObserved}
 use Rattle.tested_fragments.proofs.Joining.{by-reads, by-ranked}
 
@@ -63,11 +63,11 @@ mate-sighted offset s m b told unrefused =
 
 -- both reads, where no read of the mode is refused
 module _ (offset : ℕ) (s : Settings) (m m′ : MateRead) where
-  first-sighted : (mode : AuditInputMode) → firstOf (mateRefusal offset s) (byMode mode m m′) ≡ 0 → (b : Bool) → isSearched offset s m ≡ b → Sighted b (m .read .bases)
+  first-sighted : (mode : AuditInputMode) → firstRefusal (mateRefusal offset s) (byMode mode m m′) ≡ 0 → (b : Bool) → isSearched offset s m ≡ b → Sighted b (m .read .bases)
   first-sighted modes.SingleEnd z b e = mate-sighted offset s m b (λ t. e ∙ t) (λ t. none-first (mateRefusal offset s m) _ z)
   first-sighted modes.PairedEnd z b e = mate-sighted offset s m b (λ t. e ∙ t) (λ t. none-first (mateRefusal offset s m) _ z)
 
-  second-sighted : (mode : AuditInputMode) → firstOf (mateRefusal offset s) (byMode mode m m′) ≡ 0 → (b : Bool) → ifPaired mode (isSearched offset s m′) ≡ b → Sighted b (m′ .read .bases)
+  second-sighted : (mode : AuditInputMode) → firstRefusal (mateRefusal offset s) (byMode mode m m′) ≡ 0 → (b : Bool) → ifPaired mode (isSearched offset s m′) ≡ b → Sighted b (m′ .read .bases)
   second-sighted modes.SingleEnd z b e = mate-sighted offset s m′ b (λ t. absurd (true≢false (sym (e ∙ t)))) (λ t. absurd (true≢false (sym (e ∙ t))))
   second-sighted modes.PairedEnd z b e = mate-sighted offset s m′ b (λ t. e ∙ t) (λ t. none-first (mateRefusal offset s m′) _ (none-second (mateRefusal offset s m) _ z))
 
@@ -76,7 +76,7 @@ module _ (offset : ℕ) (s : Settings) (m m′ : MateRead) where
 -- two reads that are not searched are observed alike either way
 unsearched : (s : Settings) (ss : List (List ℕ)) (way way′ : Way) (ranked : List ℕ) (a b : ℕ) (first second : List ℕ) (l : Ledger) (k : Counters) (r : FragmentAnswer) (buffer buffer′ : List ℕ)
     → RankedObserved s ss way ranked a b (sight false first) (sight false second) l k r buffer buffer′ → RankedObserved s ss way′ ranked a b (sight false first) (sight false second) l k r buffer buffer′
-unsearched s ss way way′ ranked a b first second l k r buffer buffer′ seen = record { answer = seen .answer ∙ ap (λ z. outcome (rankedRefusal s ss way ranked a b (sight false first) (sight false second) l k (entryCount buffer)) z) (rows (s .mode)); entries = seen .entries }
+unsearched s ss way way′ ranked a b first second l k r buffer buffer′ seen = record { answer = seen .answer ∙ ap (λ z. outcome (observedRefusal s ss way ranked a b (sight false first) (sight false second) l k (entryCount buffer)) z) (rows (s .mode)); entries = seen .entries }
   where
     rows : (mode : AuditInputMode) → map (sightRow s ss way) (byMode mode (sight false first) (sight false second)) ≡ map (sightRow s ss way′) (byMode mode (sight false first) (sight false second))
     rows modes.SingleEnd = refl
@@ -96,16 +96,16 @@ module _ (offset : ℕ) (ss : List (List ℕ)) (indexed : Bool) (q : ℕ) (ranke
   Seen r b = TestedObserved offset ss (wayIf indexed q) ranked h (fragmentOf ordinal count m m′) r buffer b
 
   module _ (r : ReadsCheck)
-      (checks : checksOutcome r ≡ outcome (firstOf (mateRefusal offset s) (byMode (s .mode) m m′)) (isSearched offset s m, ifPaired (s .mode) (isSearched offset s m′))) where
+      (checks : checksOutcome r ≡ outcome (firstRefusal (mateRefusal offset s) (byMode (s .mode) m m′)) (isSearched offset s m, ifPaired (s .mode) (isSearched offset s m′))) where
     -- a read is refused
     pub reads-refused : orderRefusal (h .state .last) ordinal (s .mode) count (roleNumber (m .role)) (roleNumber (m′ .role)) ≡ 0 → (n : ℕ) → r ≡ pairs.Refused n → Seen (fragments.Refused n) buffer
     reads-refused ordered n told =
-        let w = outcome-number (firstOf (mateRefusal offset s) (byMode (s .mode) m m′)) n _ (sym checks ∙ ap checksOutcome told) in
+        let w = outcome-number (firstRefusal (mateRefusal offset s) (byMode (s .mode) m m′)) n _ (sym checks ∙ ap checksOutcome told) in
         by-reads offset ss (wayIf indexed q) ranked h ordinal count m m′ buffer ordered n (w .0) (w .1)
 
     module _ (p : SearchedReads) (told : r ≡ pairs.Passed p) where
-      reads-passed : (firstOf (mateRefusal offset s) (byMode (s .mode) m m′) ≡ 0) × (_≡_ {A = Bool × Bool} (isSearched offset s m, ifPaired (s .mode) (isSearched offset s m′)) (p .first, p .second))
-      reads-passed = outcome-accepted (firstOf (mateRefusal offset s) (byMode (s .mode) m m′)) _ (p .first, p .second) (sym checks ∙ ap checksOutcome told)
+      reads-passed : (firstRefusal (mateRefusal offset s) (byMode (s .mode) m m′) ≡ 0) × (_≡_ {A = Bool × Bool} (isSearched offset s m, ifPaired (s .mode) (isSearched offset s m′)) (p .first, p .second))
+      reads-passed = outcome-accepted (firstRefusal (mateRefusal offset s) (byMode (s .mode) m m′)) _ (p .first, p .second) (sym checks ∙ ap checksOutcome told)
 
       first-is : isSearched offset s m ≡ p .first
       first-is = ap (λ (z : Bool × Bool). z .0) (reads-passed .1)

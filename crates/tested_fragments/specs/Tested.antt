@@ -4,18 +4,18 @@ use mathlib.Core.Bool.{Bool, true, _&&_}
 use mathlib.Core.List.{List}
 use Prim.Native.Nat.{ℕ}
 use lib.ListN.{length}
-use Rattle.promises.specs.Refusal.{outcome}
+use Rattle.promises.specs.Refusal.{outcome, ifPassed}
 use Rattle.scan.specs.Entries.{entryCount}
 use Rattle.index_search.specs.Work.{Way}
 use Rattle.answers.specs.Bounds.{limitRight}
 use Rattle.ledger.specs.Booking.{Counters}
 use Rattle.ledger.specs.Counting.{Ranked}
-use Rattle.booking.specs.Books.{CountersFor}
+use Rattle.booking.specs.Books.{CountersLent}
 use Rattle.audit_rules.specs.declared.calls.FragmentAnswer.{FragmentAnswer}
 use Rattle.audit_rules.specs.declared.calls.FragmentAudit.{FragmentAudit}
 use Rattle.audit_rules.specs.declared.settings.Settings.{Settings}
 use Rattle.audit_rules.specs.Settings.{Held}
-use Rattle.audit_rules.specs.Fragment.{Fragment, entriesLeft, testedRefusal, testedRows, testedAccepted, testedWritten, heldAfter}
+use Rattle.audit_rules.specs.Fragment.{Fragment, entriesLeft, testedRefusal, testedRows, testedAccepted, testedWritten}
 use Rattle.audit_rules.specs.Calls.{fragmentOutcome}
 use Rattle.sighting.specs.Sights.{Observable}
 
@@ -23,7 +23,7 @@ use Rattle.sighting.specs.Sights.{Observable}
 pub record Tested (indexed : Bool) (q : ℕ) (bases ends ranked ks rs os : List ℕ) (s : Settings) (k : Counters) : Type 0 where
   pub observable : Observable (indexed && s .remap) q bases ends ranked ks rs os
   pub limit : limitRight (s .limit) ≡ true
-  pub counters : CountersFor (length (k .placements)) k
+  pub counters : CountersLent (length (k .placements)) k
   pub places : Ranked (length (k .placements)) ranked
 
 module _ (offset : ℕ) (ss : List (List ℕ)) (way : Way) (ranked : List ℕ) (h : Held) (f : Fragment) where
@@ -35,4 +35,4 @@ module _ (offset : ℕ) (ss : List (List ℕ)) (way : Way) (ranked : List ℕ) (
   -- observed, and booked where it is not refused
   pub record TestedAudited (r : FragmentAudit) (k′ : Counters) (buffer buffer′ : List ℕ) : Type 0 where
     pub observed : TestedObserved (r .answer) buffer buffer′
-    pub held : record { state = r .state; counters = k′ } ≡ heldAfter (testedRefusal offset ss way ranked h f (entryCount buffer)) (testedAccepted offset ss way ranked h f) h
+    pub held : record { state = r .state; counters = k′ } ≡ ifPassed (testedRefusal offset ss way ranked h f (entryCount buffer)) (testedAccepted offset ss way ranked h f) h

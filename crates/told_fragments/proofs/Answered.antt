@@ -24,7 +24,7 @@ use Rattle.audit_rules.proofs.calls.FragmentAnswer.{the-type}
 use Rattle.audit_rules.specs.declared.settings.Settings.{Settings}
 use Rattle.audit_rules.specs.Settings.{Held, roleNumber}
 use Rattle.audit_rules.specs.Observing.{MateRead, sightOf, mateGroups, mateRoom, mateRow}
-use Rattle.audit_rules.specs.Fragment.{Fragment, firstOf, shareOf, testedRefusal, testedRows}
+use Rattle.audit_rules.specs.Fragment.{Fragment, firstRefusal, shareOf, testedRefusal, testedRows}
 use Rattle.audit_rules.specs.Calls.{mappingRow, fragmentOutcome, fragmentOf}
 use Rattle.audit_rules.proofs.Checking.{tested-checked}
 use Rattle.tallies.specs.Answers.{AnswerPostable}
@@ -32,7 +32,7 @@ use Rattle.ranked_reads.proofs.Seeing.{sight-listed}
 use Rattle.tested_fragments.specs.Tested.{TestedObserved}
 use Rattle.tested_fragments.proofs.Booked.{raisable}
 use Rattle.texts.specs.Writing.{AddsAtMost}
-use Rattle.sheet_lines.specs.Lent.{NamesLent, EntriesLent}
+use Rattle.sheet_lines.specs.Lent.{ShortNames, EntriesLent}
 use Rattle.fragment_lines.specs.Answer.{answerLines, answerRoom, AnswerLent}
 use Rattle.fragment_stream.specs.declared.FragmentHead.{FragmentHead}
 use Rattle.catch_rules.specs.Job.{streamEntries}
@@ -43,7 +43,7 @@ use Rattle.told_fragments.specs.Told.{TellLent}
 -- ---- the groups of an answer
 
 -- targets that have counters have names, where there are as many
-module _ (ids ends : List ℕ) (named : NamesLent ids ends) (targets : ℕ) (each : targets ≡ length ends) where
+module _ (ids ends : List ℕ) (named : ShortNames ids ends) (targets : ℕ) (each : targets ≡ length ends) where
   entries-lent : (entries : List ℕ) (n : ℕ) → Targeted n entries targets → EntriesLent ids ends entries n
   entries-lent entries n t =
       record {
@@ -52,7 +52,7 @@ module _ (ids ends : List ℕ) (named : NamesLent ids ends) (targets : ℕ) (eac
         placed = λ i h. subst (λ k. getD entries (i * 4) 0 < k) each (subst (λ j. getD entries j 0 < targets) (mul-comm 4 i) (t .inside i h));
       }
 
-module _ (ids ends : List ℕ) (named : NamesLent ids ends) (k : Counters) (each : length (k .placements) ≡ length ends) (first second width : ℕ) (entries : List ℕ) where
+module _ (ids ends : List ℕ) (named : ShortNames ids ends) (k : Counters) (each : length (k .placements) ≡ length ends) (first second width : ℕ) (entries : List ℕ) where
   answer-named : (a : FragmentAnswer) → AnswerPostable a first second width entries k → AnswerLent ids ends entries width a
   answer-named (fragments.Refused n) p = tt
   answer-named (fragments.Single m) p = entries-lent ids ends named (length (k .placements)) each entries (m .groups) (p .first-postable .targeted)
@@ -81,9 +81,9 @@ module _ (offset : ℕ) (s : Settings) (ss : List (List ℕ)) (way : Way) (share
   mate-few : (r : MateRead) → mateRoom offset s ss share r ≡ 0 → mateRow offset s ss way r .groups ≤ share
   mate-few r z = omega (arith, sight-listed s ss (sightOf offset s r) way, listed-room share (s .limit) (mateGroups offset s ss r) z)
 
-  first-few : (reads : List MateRead) (x : Row) (xs : List Row) → map (mateRow offset s ss way) reads ≡ x ∷ xs → firstOf (mateRoom offset s ss share) reads ≡ 0 → x .groups ≤ share
+  first-few : (reads : List MateRead) (x : Row) (xs : List Row) → map (mateRow offset s ss way) reads ≡ x ∷ xs → firstRefusal (mateRoom offset s ss share) reads ≡ 0 → x .groups ≤ share
   first-few [] x xs e z = absurd (omega (arith, ap length e))
-  first-few (r ∷ rs) x xs e z = subst (λ (y : Row). y .groups ≤ share) (head-eq-of-cons-eq e) (mate-few r (none-first (mateRoom offset s ss share r) (firstOf (mateRoom offset s ss share) rs) z))
+  first-few (r ∷ rs) x xs e z = subst (λ (y : Row). y .groups ≤ share) (head-eq-of-cons-eq e) (mate-few r (none-first (mateRoom offset s ss share r) (firstRefusal (mateRoom offset s ss share) rs) z))
 
 -- ---- an audited fragment, whatever was audited
 

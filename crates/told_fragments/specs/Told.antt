@@ -12,7 +12,7 @@ use Rattle.audit_rules.specs.Fragment.{Fragment, shareOf}
 use Rattle.audit_rules.specs.Calls.{fragmentOf}
 use Rattle.tested_fragments.specs.Tested.{Tested, TestedAudited}
 use Rattle.texts.specs.Writing.{AddsAtMost}
-use Rattle.sheet_lines.specs.Lent.{NamesLent}
+use Rattle.sheet_lines.specs.Lent.{ShortNames}
 use Rattle.fragment_lines.specs.Answer.{answerLines}
 use Rattle.fragment_stream.specs.declared.FragmentHead.{FragmentHead}
 use Rattle.fragment_stream.specs.Telling.{mateAt, Placed}
@@ -27,7 +27,7 @@ fragmentAt bytes head = fragmentOf (head .ordinal) (head .count) (mateAt bytes (
 -- what it is lent: a tested catalogue with its index, a name for each target, its reads, the entries of a stream, and room for its lines
 pub record TellLent (bases baseEnds ranked ks rs os identifiers identifierEnds bytes : List ℕ) (head : FragmentHead) (s : Settings) (k : Counters) (entries out : List ℕ) (at : ℕ) : Type 0 where
   pub tested : Tested true auditSeed bases baseEnds ranked ks rs os s k
-  pub named : NamesLent identifiers identifierEnds
+  pub named : ShortNames identifiers identifierEnds
   pub each : length (k .placements) ≡ length identifierEnds
   pub first : Placed bytes (head .first)
   pub second : Placed bytes (head .second)

@@ -8,7 +8,6 @@ use native.Mathlib.Omega.{arith}
 use lib.ListN.{length, take, drop}
 use lib.Seq.{take-take, drop-drop}
 use lib.Dec.{eqb}
-use Rattle.lists.specs.Cut.{window}
 use Rattle.lists.proofs.Places.{drop-take}
 use Rattle.progress.specs.declared.Progress.{Progress}
 use Rattle.progress.specs.declared.Progress.the-variants as progress

@@ -1,6 +1,6 @@
 -- The refusals of a sheet that is written, in the order of the tests, and what it writes.
 -- Assumes nothing.
-use mathlib.Core.Path.{_≡_, refl, sym, ap, _∙_}
+use mathlib.Core.Path.{_≡_, refl, sym, ap, subst, _∙_}
 use mathlib.Core.Bool.{Bool, true, false, not, _&&_}
 use mathlib.Core.List.{List, [], _∷_}
 use Prim.Native.Nat.{ℕ, suc, _*_}
@@ -13,12 +13,12 @@ use Rattle.lists.proofs.Cases.{and-true}
 use Rattle.catalogue.specs.Catalogue.{Catalogue, names, sequences, targets, targetsFrom, inBounds}
 use Rattle.catalogue.proofs.Checks.{bounded}
 use Rattle.catalogue.proofs.Mapped.{sequence-count, mark-count, target-count}
-use Rattle.ledger.specs.Booking.{Counters}
+use Rattle.ledger.specs.Booking.{Counters, countersFor, CountersFor}
+use Rattle.ledger.proofs.Booking.{each-counter}
 use Rattle.audit_rules.specs.declared.calls.CallAnswer.the-variants as calls
 use Rattle.audit_rules.specs.declared.sheet.Sheet.{Sheet}
-use Rattle.audit_rules.specs.Opening.{countersRight}
 use Rattle.audit_rules.specs.Unitigs.{allAlike, applyRefusal}
-use Rattle.unitigs.specs.Rows.{namesAlike, listsRight, rowsTo, Named, RowsLent, Applies}
+use Rattle.unitigs.specs.Rows.{namesAlike, listsFor, rowsTo, Named, RowsLent, Applies}
 use Rattle.unitigs.proofs.Comparing.{alike-lengths}
 use Rattle.unitigs.proofs.Writing.{rows-of-targets}
 
@@ -69,8 +69,8 @@ module _ (audited c : Catalogue) (sheet : Sheet) (k : Counters) (rows : List ℕ
         pub both-named : Named (audited .identifiers) (audited .identifierEnds) (audited .marks) × Named (c .identifiers) (c .identifierEnds) (c .marks)
         both-named = (named audited u, named c t)
 
-        module _ (r : Bool) (of-lists : r ≡ listsRight rows k (length (audited .marks)) (length (c .marks))) where
-          lists : (countersRight audited k && eqb (length rows) (4 * length (targets c))) ≡ r
+        module _ (r : Bool) (of-lists : r ≡ listsFor (length (audited .marks)) k (length (c .marks)) rows) where
+          lists : (countersFor (length (targets audited)) k && eqb (length rows) (4 * length (targets c))) ≡ r
           lists = rw (target-count audited u, target-count c t) (sym of-lists)
 
           pub lists-out : (n : ℕ) → n ≡ 2 → not r ≡ true → Applies audited c sheet k rows (calls.Refused n) rows
@@ -96,18 +96,8 @@ module _ (audited c : Catalogue) (sheet : Sheet) (k : Counters) (rows : List ℕ
                   let n : length (audited .marks) ≡ length (c .marks) =
                   omega (arith, alike-lengths (names audited) (audited .marks) (names c) (c .marks) (sym of-names ∙ not-false s in-s), mark-count audited u, mark-count c t) in
                   let a = length (audited .marks) in
-                  let p = eqb (length (k .placements)) a in
-                  let o = eqb (length (k .singles)) a in
-                  let m = eqb (length (k .multi)) a in
-                  let l = and-true (p && o && m) (eqb (length rows) (4 * length (c .marks))) (sym of-lists ∙ right) in
-                  let v = and-true (p && o) m (l .0) in
-                  let w = and-true p o (v .0) in
-                  record {
-                    placements = omega (arith, eqb-true (length (k .placements)) a (w .0));
-                    singles = omega (arith, eqb-true (length (k .singles)) a (w .1));
-                    multi = omega (arith, eqb-true (length (k .multi)) a (v .1));
-                    rows-right = eqb-true (length rows) (4 * length (c .marks)) (l .1);
-                  }
+                  let l = and-true (countersFor a k) (eqb (length rows) (4 * length (c .marks))) (sym of-lists ∙ right) in
+                  record { counters = subst (λ m. CountersFor m k) n (each-counter a k (l .0)); rows-right = eqb-true (length rows) (4 * length (c .marks)) (l .1) }
 
               accepted : applyRefusal audited c sheet k rows ≡ 0
               unfolding applyRefusal

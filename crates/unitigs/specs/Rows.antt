@@ -9,7 +9,7 @@ use Rattle.lists.specs.Same.{same}
 use Rattle.promises.specs.Refusal.{outcome}
 use Rattle.names.specs.Lent.{EndsRight}
 use Rattle.catalogue.specs.Catalogue.{Catalogue}
-use Rattle.ledger.specs.Booking.{Counters}
+use Rattle.ledger.specs.Booking.{Counters, countersFor, CountersFor}
 use Rattle.audit_rules.specs.declared.calls.CallAnswer.{CallAnswer}
 use Rattle.audit_rules.specs.declared.sheet.Status.{Status}
 use Rattle.audit_rules.specs.declared.sheet.Sheet.{Sheet}
@@ -30,10 +30,9 @@ namesAlike (n ∷ ns) (m ∷ ms) (n′ ∷ ns′) (m′ ∷ ms′) = (same n n�
 abbrev pub placeAlike : List (List ℕ) → List ℕ → List (List ℕ) → List ℕ → ℕ → Bool
 placeAlike ns ms ns′ ms′ i = same (getD ns i []) (getD ns′ i []) && eqb (getD ms i 0) (getD ms′ i 0)
 
--- one counter of each kind for each audited target, and one row of four numbers for each target
-abbrev pub listsRight : List ℕ → Counters → ℕ → ℕ → Bool
-listsRight rows k audited targets =
-    eqb (length (k .placements)) audited && eqb (length (k .singles)) audited && eqb (length (k .multi)) audited && eqb (length rows) (4 * targets)
+-- a counter of each kind for each audited target, and a row of four numbers for each target
+abbrev pub listsFor : ℕ → Counters → ℕ → List ℕ → Bool
+listsFor audited k targets rows = countersFor audited k && eqb (length rows) (4 * targets)
 
 -- identifiers with right ends, and a mark for each
 pub record Named (identifiers ends marks : List ℕ) : Type 0 where
@@ -51,9 +50,7 @@ rowsTo status marks k (suc n) = rowsTo status marks k n ++ rowAt status marks k 
 
 -- a counter of each kind and a row of four numbers for each of n targets
 pub record RowsLent (n : ℕ) (k : Counters) (rows : List ℕ) : Type 0 where
-  pub placements : length (k .placements) ≡ n
-  pub singles : length (k .singles) ≡ n
-  pub multi : length (k .multi) ≡ n
+  pub counters : CountersFor n k
   pub rows-right : length rows ≡ 4 * n
 
 -- `apply_to_unitigs`

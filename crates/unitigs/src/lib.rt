@@ -9,7 +9,7 @@ ghost use Rattle.seeds.specs.Seeds.{placed};
 ghost use Rattle.ledger.specs.Booking.{countersOf, lentCounters};
 ghost use Rattle.audit_rules.specs.Sheet.{statusNumber};
 ghost use Rattle.audit_rules.specs.Unitigs.{shownNumbers};
-ghost use Rattle.unitigs.specs.Rows.{namesAlike, placeAlike, listsRight, rowsTo, Named, RowsLent, Applies};
+ghost use Rattle.unitigs.specs.Rows.{namesAlike, placeAlike, listsFor, rowsTo, Named, RowsLent, Applies};
 use audit_rules::calls::CallAnswer;
 use audit_rules::sheet::Availability;
 use audit_rules::sheet::PlacementTotals;
@@ -149,7 +149,7 @@ fn lists_right(
     audited: usize,
     targets: usize,
 ) -> bool
-    ensures { λ r. ⌜ r ≡ listsRight (old rows) (lentCounters placements singles multi) audited targets ⌝ }
+    ensures { λ r. ⌜ r ≡ listsFor audited (lentCounters placements singles multi) targets (old rows) ⌝ }
 {
     if placements.len() != audited {
         return false;

@@ -33,7 +33,7 @@ targets-fit-requires-2 c κs =
     let z = c .before .before .before .before .before .before .before .before .before in
     let a = z .args in
     let k = countersOf (a .placements .now) (a .singles .now) (a .multi .now) in
-    targets-fittable (a .n) (a .first .now) (a .m) (a .second .now) k (z .pre) _ _ _ (omega (arith, single-fewer (a .n), c .before .single-groups .ensures)) (omega (arith, single-fewer (a .m), c .single-groups2 .ensures)) (z .pre .counters .singles)
+    targets-fittable (a .n) (a .first .now) (a .m) (a .second .now) k (z .pre) _ _ _ (omega (arith, single-fewer (a .n), c .before .single-groups .ensures)) (omega (arith, single-fewer (a .m), c .single-groups2 .ensures)) (z .pre .counters .each .singles)
 
 returns-2 : tie.Need-returns-2
 returns-2 c =
@@ -54,7 +54,7 @@ targets-fit-requires-3 c κs =
     let z = c .before .before .before .before .before .before .before .before .before .before .before .before .before in
     let a = z .args in
     let k = countersOf (a .placements .now) (a .singles .now) (a .multi .now) in
-    targets-fittable (a .n) (a .first .now) (a .m) (a .second .now) k (z .pre) _ _ _ (omega (arith, several-fewer (a .n), c .before .several-groups .ensures)) (omega (arith, several-fewer (a .m), c .several-groups2 .ensures)) (z .pre .counters .multi)
+    targets-fittable (a .n) (a .first .now) (a .m) (a .second .now) k (z .pre) _ _ _ (omega (arith, several-fewer (a .n), c .before .several-groups .ensures)) (omega (arith, several-fewer (a .m), c .several-groups2 .ensures)) (z .pre .counters .each .multi)
 
 returns-3 : tie.Need-returns-3
 returns-3 c =

@@ -48,7 +48,7 @@ use denote.Triple.Clauses.{ensured, lasts}
 use denote.Triple.Table.{entered, cited}
 use denote.Triple.Walked.{says, needs, Stays, stay-slice, stay-none-slice, stay-none, walkOf, goes-slice, goes-none-slice, goes-none, Walks, ends-at, walked, walk-meets}
 use denote.Exit.{yes}
-use Rattle.copying.specs.Records.{RowIn, RowSet, Fits, Copied}
+use Rattle.copying.specs.Records.{RowIn, RowSet, Fits}
 use Rattle.copying.specs.declared.SeedPosting.{SeedPosting}
 use Rattle.copying.proofs.Again.{LentAgain, lends-again, comes-back}
 use Rattle.copying.proofs.Filling.{none, filled, length-filled, filled-next}

@@ -4,7 +4,7 @@ use mathlib.Core.Path.{refl, _∙_}
 use mathlib.Core.List.{[]}
 use native.Mathlib.Omega.{arith}
 use borrow.Author.Needs.{needs}
-use Rattle.raising.specs.Targets.{targetsIn, chosen}
+use Rattle.raising.specs.Targets.{targetsIn, countedTargets}
 use Rattle.raising.proofs.Adding.{clear, marks-raisable, marks-fit, few-chosen}
 use Rattle.raising.proofs.totals_fit.Statement.{statement}
 use Rattle.raising.proofs.totals_fit.Tie as tie
@@ -24,7 +24,7 @@ raise-targets-requires-2 : tie.Need-raise-targets-requires-2
 raise-targets-requires-2 c κs =
     let z = c .before .before .before .before .before .before .before in
     let a = z .args in
-    marks-raisable (chosen (a .each) (targetsIn (a .n) (a .first .now))) _ (c .before .before .raise-targets .ensures) (a .each) _ _ (few-chosen (a .each) (a .n) (a .first .now) (z .pre .few .1)) (omega arith) (omega arith) (λ i h. omega (arith, z .pre .second-targeted .inside i (omega (arith, h))))
+    marks-raisable (countedTargets (a .each) (targetsIn (a .n) (a .first .now))) _ (c .before .before .raise-targets .ensures) (a .each) _ _ (few-chosen (a .each) (a .n) (a .first .now) (z .pre .few .1)) (omega arith) (omega arith) (λ i h. omega (arith, z .pre .second-targeted .inside i (omega (arith, h))))
 
 slice-aggregate-sums-fit : tie.Need-slice-aggregate-sums-fit
 slice-aggregate-sums-fit c = search needs
@@ -37,7 +37,7 @@ returns c =
     let z = c .before .before .before .before .before .before .before .before .before .before .before in
     let a = z .args in
     c .sums-fit .ensures
-    ∙ marks-fit (chosen (a .each) (targetsIn (a .n) (a .first .now))) _ (c .before .before .before .before .before .before .raise-targets .ensures) (chosen (a .each) (targetsIn (a .m) (a .second .now))) _ (a .counters .now) (c .before .before .before .raise-targets2 .ensures) (z .pre .few .0)
+    ∙ marks-fit (countedTargets (a .each) (targetsIn (a .n) (a .first .now))) _ (c .before .before .before .before .before .before .raise-targets .ensures) (countedTargets (a .each) (targetsIn (a .m) (a .second .now))) _ (a .counters .now) (c .before .before .before .raise-targets2 .ensures) (z .pre .few .0)
 
 pub totals-fit-spec : {M : Type 1} → statement M
 totals-fit-spec =

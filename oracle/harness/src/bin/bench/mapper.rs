@@ -1,7 +1,7 @@
 //! The index built and all reads mapped, on both sides.
 //!
-//! Our columns, rows and entries are allocated and filled before the clock starts; the Rust allocates its own while it
-//! runs. Nothing is freed within a time, but for the Rust's answer to a read before its next one. Nothing is loaded or written.
+//! Both work in fresh memory: our columns, rows and entries are allocated within the time, as the Rust allocates its own.
+//! Nothing is freed within a time, but for the Rust's answer to a read before its next one. Nothing is loaded or written.
 
 use crate::sets::Set;
 use crate::{bowtie, print, timed};
@@ -19,14 +19,17 @@ pub fn run(set: &Set, beside_bowtie: bool) -> bool {
     let unitigs = theirs::unitigs(c).expect("a right catalogue");
     let expected = rules::index(c, q);
     let postings = expected[0].len();
-    let mut columns: Columns = [0; 3].map(|_| vec![7; postings]);
+    let mut columns: Columns = Default::default();
     let (mut a, mut b) = (Vec::new(), Vec::new());
     let mut same = true;
     for _ in 0..3 {
-        columns.iter_mut().for_each(|c| c.fill(7));
         let mut answer = [0; 2];
-        let [keys, ranks, positions] = &mut columns;
-        timed(&mut a, || ours::build(&mut answer, [keys, ranks, positions], c, q));
+        columns = timed(&mut a, || {
+            let mut fresh: Columns = [0; 3].map(|_| vec![0; postings]);
+            let [keys, ranks, positions] = &mut fresh;
+            ours::build(&mut answer, [keys, ranks, positions], c, q);
+            fresh
+        });
         let mapper = timed(&mut b, || IndexedExactMapper::new(&unitigs, theirs::config(q))).expect("the Rust builds");
         same &= answer == [0, postings as u64] && columns == expected && mapper.posting_count() == postings;
     }
@@ -45,11 +48,15 @@ pub fn run(set: &Set, beside_bowtie: bool) -> bool {
             Some(*end)
         })
         .collect();
-    let mut rows = vec![7; 8 * reads.len()];
-    let mut entries = vec![7; 4 * share * reads.len()];
+    let (mut rows, mut entries) = (Vec::new(), Vec::new());
     let (mut a, mut b) = (Vec::new(), Vec::new());
     for _ in 0..3 {
-        let refusal = timed(&mut a, || ours::map_reads(&mut rows, &mut entries, &columns, c, q, &bytes, &ends, *limit));
+        let refusal;
+        (rows, entries, refusal) = timed(&mut a, || {
+            let (mut rows, mut entries) = (vec![0; 8 * reads.len()], vec![0; 4 * share * reads.len()]);
+            let refusal = ours::map_reads(&mut rows, &mut entries, &columns, c, q, &bytes, &ends, *limit);
+            (rows, entries, refusal)
+        });
         same &= refusal == 0;
         timed(&mut b, || reads.iter().for_each(|read| drop(black_box(mapper.inner.map(read, *limit)))));
     }
