@@ -28,7 +28,7 @@ use Rattle.audit_rules.specs.declared.settings.LastOrdinal.the-variants as ordi
 use Rattle.audit_rules.specs.declared.settings.Settings.{Settings}
 use Rattle.audit_rules.specs.Settings.{Held}
 use Rattle.audit_rules.specs.Opening.{openingRefusal}
-use Rattle.audit_rules.specs.Observing.{MateRead, verdictRefusal, mateRefusal, mateRoom}
+use Rattle.audit_rules.specs.Observing.{MateRead, verdictRefusal, mateRefusal, observe, observedRoom}
 use Rattle.audit_rules.specs.Fragment.{inOrder, rolesRight, firstRefusal, shareOf, testedRefusal, fragmentRefusal, fragmentBooks}
 use Rattle.audit_rules.specs.Run.{Call, answerTo}
 use Rattle.audit_rules.proofs.Checking.{fragment-checked}
@@ -118,15 +118,15 @@ module _ (q offset : ℕ) (c : Catalogue) (h : Held) (x : Call) where
       (both-pass (unless (rolesRight (s .mode) (x .fragment .reads)) 13) _ (unrefused _ 13 (true-same _ _ (a .roles)))
       (both-pass (firstRefusal (mateRefusal offset s) (x .fragment .reads)) _
       (all-pass (mateRefusal offset s) (x .fragment .reads) (λ r m. read-passes offset s r (a .lengths r m) (λ t. a .verdicts t r m)))
-      (both-pass (firstRefusal (mateRoom offset s (mappedSequences c) (shareOf (s .mode) (entryCount (x .entries)))) (x .fragment .reads)) _
-      (all-pass (mateRoom offset s (mappedSequences c) (shareOf (s .mode) (entryCount (x .entries)))) (x .fragment .reads) (λ r m. room-passes _ (s .limit) _ (a .rooms r m)))
-      (unrefused _ 17 (counts-pass (fragmentBooks q offset c (x .lent) h (x .fragment)) (a .counts)))))))
+      (both-pass (firstRefusal ((λ (x : MateRead). observedRoom s (mappedSequences c) (shareOf (s .mode) (entryCount (x .entries))) (observe offset s x))) (x .fragment .reads)) _
+      (all-pass ((λ (x : MateRead). observedRoom s (mappedSequences c) (shareOf (s .mode) (entryCount (x .entries))) (observe offset s x))) (x .fragment .reads) (λ r m. room-passes _ (s .limit) _ (a .rooms r m)))
+      (unrefused _ 17 (counts-pass (fragmentBooks offset c h (x .fragment)) (a .counts)))))))
 
   passed-acceptable : refusal ≡ 0 → Acceptable q offset c h x
   passed-acceptable z =
       let p = fragment-checked q offset c (x .lent) h (x .fragment) (entryCount (x .entries)) z in
       let reads = each-passes (mateRefusal offset s) (x .fragment .reads) (p .own .reads) in
-      let rooms = each-passes (mateRoom offset s (mappedSequences c) (shareOf (s .mode) (entryCount (x .entries)))) (x .fragment .reads) (p .own .rooms) in
+      let rooms = each-passes ((λ (x : MateRead). observedRoom s (mappedSequences c) (shareOf (s .mode) (entryCount (x .entries))) (observe offset s x))) (x .fragment .reads) (p .own .rooms) in
       record {
         opening = p .opening;
         order = λ last e. order-passed (h .state .last) (x .fragment .ordinal) last e (p .own .order);
@@ -134,7 +134,7 @@ module _ (q offset : ℕ) (c : Catalogue) (h : Held) (x : Call) where
         lengths = λ r m. read-short offset s r (reads r m);
         verdicts = λ t r m. read-judged offset s r (reads r m) t;
         rooms = λ r m. room-passed _ (s .limit) _ (rooms r m);
-        counts = counts-passed (fragmentBooks q offset c (x .lent) h (x .fragment)) (p .own .counts);
+        counts = counts-passed (fragmentBooks offset c h (x .fragment)) (p .own .counts);
       }
 
   pub accepted-when : Acceptable q offset c h x ↔ (isRefused (answerTo q offset c h x .rows) ≡ false)

@@ -5,6 +5,7 @@ use mathlib.Core.Bool.{true≢false}
 use mathlib.Core.List.{List, [], _∷_, map, map-map, head-eq-of-cons-eq, tail-eq-of-cons-eq}
 use Prim.Native.Nat.{ℕ, zero, suc, _*_, _≤_}
 use native.Mathlib.Nat.{mul-zero}
+use Rattle.audit_rules.specs.Observing.{observe, observedRow, MateRead}
 use Rattle.promises.specs.Refusal.{accepted, outcome, ifPassed, isRefused}
 use Rattle.promises.proofs.Refusing.{outcome-accepted}
 use Rattle.catalogue.specs.Catalogue.{Catalogue, Valid, suppliedPlaces}
@@ -17,7 +18,6 @@ use Rattle.audit_rules.specs.declared.settings.LastOrdinal.the-variants as ordi
 use Rattle.audit_rules.specs.declared.sheet.Sheet.{Sheet}
 use Rattle.audit_rules.specs.Settings.{Held, heldBooks}
 use Rattle.audit_rules.specs.Opening.{IndexLent, columns, none, started}
-use Rattle.audit_rules.specs.Observing.{mateRow}
 use Rattle.audit_rules.specs.Fragment.{Fragment, shareOf, entriesLeft, fragmentRefusal, fragmentAccepted, fragmentWritten}
 use Rattle.audit_rules.specs.Sheet.{sheetOf, targetsShown, finishRefusal, finishAnswer}
 use Rattle.audit_rules.specs.Run.{Answer, answerTo, next, answers, after}
@@ -46,24 +46,24 @@ module _ (q offset : ℕ) (some : 1 ≤ q) (c : Catalogue) (right : Valid c) whe
     module _ (z : fragmentRefusal q offset c lent h fragment (entryCount (x .entries)) ≡ 0) (z′ : fragmentRefusal q offset c none h plainFragment (entryCount (x .plainEntries)) ≡ 0) where
       -- both accept it: every read agrees
       fragment-agrees : ReadsAgree c (4 * shareOf (s .mode) (entryCount (x .entries))) (4 * shareOf (s .mode) (entryCount (x .plainEntries))) (x .reads)
-          (map (mateRow offset s (mappedSequences c) (byIndex q)) (fragment .reads)) (map (mateRow offset s (mappedSequences c) plain) (plainFragment .reads))
-          (fragmentWritten q offset c lent h fragment (x .entries)) (fragmentWritten q offset c none h plainFragment (x .plainEntries))
+          (map ((λ (x : MateRead). observedRow s (mappedSequences c) (byIndex q) (observe offset s x))) (fragment .reads)) (map ((λ (x : MateRead). observedRow s (mappedSequences c) plain (observe offset s x))) (plainFragment .reads))
+          (fragmentWritten offset c h fragment (x .entries)) (fragmentWritten offset c h plainFragment (x .plainEntries))
       fragment-agrees =
           let a = fragment-checked q offset c lent h fragment (entryCount (x .entries)) z .own in
           let b = fragment-checked q offset c none h plainFragment (entryCount (x .plainEntries)) z′ .own in
           record {
             rows = map (twinRow q offset some c right s) (x .reads);
-            firsts-are = map-map (λ (y : TwinRow). y .first) (twinRow q offset some c right s) (x .reads) ∙ sym (map-map (mateRow offset s (mappedSequences c) (byIndex q)) (λ (t : TwinRead). t .mate) (x .reads));
-            seconds-are = map-map (λ (y : TwinRow). y .second) (twinRow q offset some c right s) (x .reads) ∙ sym (map-map (mateRow offset s (mappedSequences c) plain) plainMate (x .reads));
+            firsts-are = map-map (λ (y : TwinRow). y .first) (twinRow q offset some c right s) (x .reads) ∙ sym (map-map ((λ (x : MateRead). observedRow s (mappedSequences c) (byIndex q) (observe offset s x))) (λ (t : TwinRead). t .mate) (x .reads));
+            seconds-are = map-map (λ (y : TwinRow). y .second) (twinRow q offset some c right s) (x .reads) ∙ sym (map-map ((λ (x : MateRead). observedRow s (mappedSequences c) plain (observe offset s x))) plainMate (x .reads));
             each =
                 all-agree q offset some c right s (x .reads) (a .reads) (b .reads) (4 * shareOf (s .mode) (entryCount (x .entries))) (4 * shareOf (s .mode) (entryCount (x .plainEntries))) 0
-                (x .entries) (fragmentWritten q offset c lent h fragment (x .entries)) (x .plainEntries) (fragmentWritten q offset c none h plainFragment (x .plainEntries))
+                (x .entries) (fragmentWritten offset c h fragment (x .entries)) (x .plainEntries) (fragmentWritten offset c h plainFragment (x .plainEntries))
                 (rw mul-zero (reads-in-parts offset s (mappedSequences c) (suppliedPlaces c) (fragment .reads) (x .entries) (a .roles) (a .rooms)))
                 (rw mul-zero (reads-in-parts offset s (mappedSequences c) (suppliedPlaces c) (plainFragment .reads) (x .plainEntries) (b .roles) (b .rooms)));
           }
 
       -- and both hold the same
-      held-same : fragmentAccepted q offset c lent h fragment ≡ fragmentAccepted q offset c none h plainFragment
+      held-same : fragmentAccepted offset c h fragment ≡ fragmentAccepted offset c h plainFragment
       held-same =
           let a = fragment-checked q offset c lent h fragment (entryCount (x .entries)) z .own in
           let b = fragment-checked q offset c none h plainFragment (entryCount (x .plainEntries)) z′ .own in
@@ -104,19 +104,19 @@ module _ (q offset : ℕ) (some : 1 ≤ q) (c : Catalogue) (right : Valid c) whe
       (λ g. calls-agree xs g (suc i)) (head-eq-of-cons-eq e) (tail-eq-of-cons-eq e)
     where
       first : ℕ → Answer
-      first k = record { rows = outcome k (map (mateRow offset (h .state .settings) (mappedSequences c) (byIndex q)) (fragment h x .reads)); entries = entriesLeft k (fragmentWritten q offset c (lent h x) h (fragment h x) (x .entries)) (x .entries) }
+      first k = record { rows = outcome k (map ((λ (x : MateRead). observedRow (h .state .settings) (mappedSequences c) (byIndex q) (observe offset (h .state .settings) x))) (fragment h x .reads)); entries = entriesLeft k (fragmentWritten offset c h (fragment h x) (x .entries)) (x .entries) }
 
       second : ℕ → Answer
-      second k = record { rows = outcome k (map (mateRow offset (h .state .settings) (mappedSequences c) plain) (plainFragment h x .reads)); entries = entriesLeft k (fragmentWritten q offset c none h (plainFragment h x) (x .plainEntries)) (x .plainEntries) }
+      second k = record { rows = outcome k (map ((λ (x : MateRead). observedRow (h .state .settings) (mappedSequences c) plain (observe offset (h .state .settings) x))) (plainFragment h x .reads)); entries = entriesLeft k (fragmentWritten offset c h (plainFragment h x) (x .plainEntries)) (x .plainEntries) }
 
       pair : ℕ → ℕ → TwinAnswer
       pair k k′ = record { first = first k; second = second k′ }
 
       held : ℕ → Held
-      held k = ifPassed k (fragmentAccepted q offset c (lent h x) h (fragment h x)) h
+      held k = ifPassed k (fragmentAccepted offset c h (fragment h x)) h
 
       held′ : ℕ → Held
-      held′ k = ifPassed k (fragmentAccepted q offset c none h (plainFragment h x)) h
+      held′ k = ifPassed k (fragmentAccepted offset c h (plainFragment h x)) h
 
       join : (y y′ : Held) → y ≡ y′ → ((g : Held) → Together xs g g → CallsEnd (g .state .settings) (suc i) xs g g) → Together xs y y′ → CallsEnd (y .state .settings) (suc i) xs y y′
       join y y′ e ih t = subst (λ (g : Held). CallsEnd (y .state .settings) (suc i) xs y g) e (ih y (t ∙ ap (λ (g : Held). refusals (answers q offset c g (map plainCall xs))) (sym e)))
@@ -127,7 +127,7 @@ module _ (q offset : ℕ) (some : 1 ≤ q) (c : Catalogue) (right : Valid c) whe
           → Each (Agrees (h .state .settings)) i (x ∷ xs) (pair k k′ ∷ twinAnswers (held k) (held′ k′) xs)
           × (after q offset c (held k) (map indexedCall xs) ≡ after q offset c (held′ k′) (map plainCall xs))
       go zero zero z z′ ih v t =
-          let r = join (fragmentAccepted q offset c (lent h x) h (fragment h x)) (fragmentAccepted q offset c none h (plainFragment h x)) (held-same h x z z′) ih t in
+          let r = join (fragmentAccepted offset c h (fragment h x)) (fragmentAccepted offset c h (plainFragment h x)) (held-same h x z z′) ih t in
           (both i x (pair 0 0) xs _ (fragment-agrees h x z z′) (r .0), r .1)
       go zero (suc k′) z z′ ih v t = absurd (true≢false (sym v))
       go (suc k) zero z z′ ih v t = absurd (true≢false v)

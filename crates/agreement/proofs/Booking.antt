@@ -50,7 +50,7 @@ shown-few false n (inl e) = omega arith
 
 module _ (offset : ℕ) (s : Settings) (ss : List (List ℕ)) (way : Way) (r : MateRead) where
   -- its state is one that the sheet shows
-  pub state-shown : mateBooked offset s ss way r .state ∈ statesShown (s .remap)
+  pub state-shown : mateBooked offset s ss r .state ∈ statesShown (s .remap)
   state-shown = go (s .remap) (isEligible (eligibility (s .floor) offset (r .read)))
     where
       gs : List Place
@@ -62,7 +62,7 @@ module _ (offset : ℕ) (s : Settings) (ss : List (List ℕ)) (way : Way) (r : M
       go false fit = inl refl
 
   -- it can be booked
-  read-bookable : Bookable (length ss) (mateBooked offset s ss way r)
+  read-bookable : Bookable (length ss) (mateBooked offset s ss r)
   read-bookable =
       record {
         role = few-roles (r .role);
@@ -71,9 +71,9 @@ module _ (offset : ℕ) (s : Settings) (ss : List (List ℕ)) (way : Way) (r : M
       }
 
 -- in the targets of a catalogue
-pub mate-bookable : (c : Catalogue) (offset : ℕ) (s : Settings) (way : Way) (r : MateRead) → Bookable (length (suppliedPlaces c)) (mateBooked offset s (mappedSequences c) way r)
+pub mate-bookable : (c : Catalogue) (offset : ℕ) (s : Settings) (way : Way) (r : MateRead) → Bookable (length (suppliedPlaces c)) (mateBooked offset s (mappedSequences c) r)
 mate-bookable c offset s way r =
-    subst (λ n. Bookable n (mateBooked offset s (mappedSequences c) way r)) (length-map (mapped c) _ ∙ sym (length-map (mapped c) _)) (read-bookable offset s (mappedSequences c) way r)
+    subst (λ n. Bookable n (mateBooked offset s (mappedSequences c) r)) (length-map (mapped c) _ ∙ sym (length-map (mapped c) _)) (read-bookable offset s (mappedSequences c) way r)
 
 -- ---- runs
 
@@ -82,7 +82,7 @@ module _ (q offset : ℕ) (c : Catalogue) where
   pub settings-stay : (h : Held) (x : Call) → next q offset c h x .state .settings ≡ h .state .settings
   settings-stay h x = go (fragmentRefusal q offset c (x .lent) h (x .fragment) (entryCount (x .entries)))
     where
-      go : (n : ℕ) → ifPassed n (fragmentAccepted q offset c (x .lent) h (x .fragment)) h .state .settings ≡ h .state .settings
+      go : (n : ℕ) → ifPassed n (fragmentAccepted offset c h (x .fragment)) h .state .settings ≡ h .state .settings
       go zero = refl
       go (suc n) = refl
 
@@ -91,15 +91,15 @@ module _ (q offset : ℕ) (c : Catalogue) where
   settings-after h (x ∷ xs) = settings-after (next q offset c h x) xs ∙ settings-stay h x
 
   -- what holds of every read that is observed under the settings holds of the history
-  pub history-all : (s : Settings) (P : Booked → Type 0) → ((way : Way) (r : MateRead) → P (mateBooked offset s (mappedSequences c) way r))
+  pub history-all : (s : Settings) (P : Booked → Type 0) → ((way : Way) (r : MateRead) → P (mateBooked offset s (mappedSequences c) r))
       → (h : Held) → h .state .settings ≡ s → (xs : List Call) (b : Booked) → b ∈ history q offset c h xs → P b
   history-all s P all h e (x ∷ xs) b m =
       split (history-all s P all (next q offset c h x) (settings-stay h x ∙ e) xs b) (append-∈ b (books q offset c h x) (history q offset c (next q offset c h x) xs) m)
     where
-      here : (n : ℕ) → b ∈ ifPassed n (fragmentBooked q offset c (x .lent) h (x .fragment)) [] → P b
+      here : (n : ℕ) → b ∈ ifPassed n (fragmentBooked offset c h (x .fragment)) [] → P b
       here zero i =
-          let r = map-∈ (mateBooked offset (h .state .settings) (mappedSequences c) (wayOf q (x .lent))) b (x .fragment .reads) i in
-          subst P (sym (r .2)) (subst (λ (u : Settings). P (mateBooked offset u (mappedSequences c) (wayOf q (x .lent)) (r .0))) (sym e) (all (wayOf q (x .lent)) (r .0)))
+          let r = map-∈ (mateBooked offset (h .state .settings) (mappedSequences c)) b (x .fragment .reads) i in
+          subst P (sym (r .2)) (subst (λ (u : Settings). P (mateBooked offset u (mappedSequences c) (r .0))) (sym e) (all (wayOf q (x .lent)) (r .0)))
 
       split : (b ∈ history q offset c (next q offset c h x) xs → P b) → (b ∈ books q offset c h x) ⊎ (b ∈ history q offset c (next q offset c h x) xs) → P b
       split later (inl i) = here (fragmentRefusal q offset c (x .lent) h (x .fragment) (entryCount (x .entries))) i

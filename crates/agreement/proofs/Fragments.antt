@@ -23,7 +23,7 @@ use Rattle.indexed_mapper.specs.Laws.{turnedGroups}
 use Rattle.indexed_mapper.proofs.Matching.{as-many}
 use Rattle.ledger.specs.Booking.{Booked, Books, targetsOf, ledgerWith, countersWith, bookedOne, bookedAll}
 use Rattle.audit_rules.specs.declared.settings.Settings.{Settings}
-use Rattle.audit_rules.specs.Observing.{MateRead, mateRefusal, mateListed, mateEntries, mateRow, mateBooked}
+use Rattle.audit_rules.specs.Observing.{MateRead, mateRefusal, mateBooked, observe, observedListed, observedEntries, observedRow}
 use Rattle.audit_rules.specs.Fragment.{firstRefusal}
 use Rattle.audit_rules.proofs.Parts.{InParts}
 use Rattle.agreement.specs.Placements.{placementsIn, placementsIf, turnedPlacements}
@@ -53,44 +53,44 @@ module _ (q offset : ℕ) (some : 1 ≤ q) (c : Catalogue) (valid : Valid c) (s 
 
   -- both audits book it alike
   one-booked : (t : TwinRead) → mateRefusal offset s (t .mate) ≡ 0 → mateRefusal offset s (plainMate t) ≡ 0
-      → (books : Books) → bookedOne ranked (mateBooked offset s ss (byIndex q) (t .mate)) books ≡ bookedOne ranked (mateBooked offset s ss plain (plainMate t)) books
+      → (books : Books) → bookedOne ranked (mateBooked offset s ss (t .mate)) books ≡ bookedOne ranked (mateBooked offset s ss (plainMate t)) books
   one-booked t z z′ = go (t .turns) z′
     where
       go : (b : Bool) → mateRefusal offset s (cond b (turnedMate (t .mate)) (t .mate)) ≡ 0
-          → (books : Books) → bookedOne ranked (mateBooked offset s ss (byIndex q) (t .mate)) books ≡ bookedOne ranked (mateBooked offset s ss plain (cond b (turnedMate (t .mate)) (t .mate))) books
+          → (books : Books) → bookedOne ranked (mateBooked offset s ss (t .mate)) books ≡ bookedOne ranked (mateBooked offset s ss (cond b (turnedMate (t .mate)) (t .mate))) books
       go true y =
-          booked-same ranked (mateBooked offset s ss (byIndex q) (t .mate)) (mateBooked offset s ss plain (turnedMate (t .mate))) refl
+          booked-same ranked (mateBooked offset s ss (t .mate)) (mateBooked offset s ss (turnedMate (t .mate))) refl
           (state-turned offset s ss (t .mate) z y (byIndex q) plain) (targets-turned offset s ss (t .mate) z y ranked)
-      go false y = booked-same ranked (mateBooked offset s ss (byIndex q) (t .mate)) (mateBooked offset s ss plain (t .mate)) refl (state-same offset s ss (byIndex q) plain (t .mate)) refl
+      go false y = booked-same ranked (mateBooked offset s ss (t .mate)) (mateBooked offset s ss (t .mate)) refl (state-same offset s ss (byIndex q) plain (t .mate)) refl
 
   -- the placements of a read stand in its part
-  part-shows : (way : Way) (m : MateRead) (part before : List ℕ) → part ≡ placed 0 (mateEntries offset s ss ranked m) (cleared before)
-      → placementsIn (mateRow offset s ss way m .groups) part ≡ map (placementOf ranked (length (m .read .bases))) (mateListed offset s ss m)
+  part-shows : (way : Way) (m : MateRead) (part before : List ℕ) → part ≡ placed 0 (observedEntries s ss ranked (observe offset s m)) (cleared before)
+      → placementsIn (observedRow s ss way (observe offset s m) .groups) part ≡ map (placementOf ranked (length (m .read .bases))) (observedListed s ss (observe offset s m))
   part-shows way m part before e =
       ap₂ placementsIn (row-listed offset s ss way m) e
-      ∙ placements-listed ranked (length (m .read .bases)) (mateListed offset s ss m) (drop (0 + length (mateEntries offset s ss ranked m)) (cleared before))
+      ∙ placements-listed ranked (length (m .read .bases)) (observedListed s ss (observe offset s m)) (drop (0 + length (observedEntries s ss ranked (observe offset s m))) (cleared before))
 
-  listed-ranked : (m : MateRead) (p : Place) → p ∈ mateListed offset s ss m → p .rank < length (mapped c)
+  listed-ranked : (m : MateRead) (p : Place) → p ∈ observedListed s ss (observe offset s m) → p .rank < length (mapped c)
   listed-ranked m p k = omega (arith, groups-∈ ss (m .read .bases) p (listed-∈ offset s ss m p k) .0 .ranked, as-many c valid)
 
   -- it agrees
   one-agrees : (t : TwinRead) → mateRefusal offset s (t .mate) ≡ 0 → mateRefusal offset s (plainMate t) ≡ 0
-      → (part before part′ before′ : List ℕ) → part ≡ placed 0 (mateEntries offset s ss ranked (t .mate)) (cleared before) → part′ ≡ placed 0 (mateEntries offset s ss ranked (plainMate t)) (cleared before′)
-      → ReadAgrees c t (mateRow offset s ss (byIndex q) (t .mate)) (mateRow offset s ss plain (plainMate t)) part part′
+      → (part before part′ before′ : List ℕ) → part ≡ placed 0 (observedEntries s ss ranked (observe offset s (t .mate))) (cleared before) → part′ ≡ placed 0 (observedEntries s ss ranked (observe offset s (plainMate t))) (cleared before′)
+      → ReadAgrees c t (observedRow s ss (byIndex q) (observe offset s (t .mate))) (observedRow s ss plain (observe offset s (plainMate t))) part part′
   one-agrees t z z′ part before part′ before′ e e′ =
       let r = go (t .turns) z′ e′ in
       record { state = r .0; groups = r .1; placements = r .2; fewer = λ f. rw f (read-fewer offset s ss q some (t .mate)) }
     where
-      go : (b : Bool) → mateRefusal offset s (cond b (turnedMate (t .mate)) (t .mate)) ≡ 0 → part′ ≡ placed 0 (mateEntries offset s ss ranked (cond b (turnedMate (t .mate)) (t .mate))) (cleared before′)
-          → (mateRow offset s ss (byIndex q) (t .mate) .state ≡ mateRow offset s ss plain (cond b (turnedMate (t .mate)) (t .mate)) .state)
-          × (mateRow offset s ss (byIndex q) (t .mate) .groups ≡ mateRow offset s ss plain (cond b (turnedMate (t .mate)) (t .mate)) .groups)
-          × (placementsIn (mateRow offset s ss plain (cond b (turnedMate (t .mate)) (t .mate)) .groups) part′ ≡ placementsIf b c (placementsIn (mateRow offset s ss (byIndex q) (t .mate) .groups) part))
+      go : (b : Bool) → mateRefusal offset s (cond b (turnedMate (t .mate)) (t .mate)) ≡ 0 → part′ ≡ placed 0 (observedEntries s ss ranked (observe offset s (cond b (turnedMate (t .mate)) (t .mate)))) (cleared before′)
+          → (observedRow s ss (byIndex q) (observe offset s (t .mate)) .state ≡ observedRow s ss plain (observe offset s (cond b (turnedMate (t .mate)) (t .mate))) .state)
+          × (observedRow s ss (byIndex q) (observe offset s (t .mate)) .groups ≡ observedRow s ss plain (observe offset s (cond b (turnedMate (t .mate)) (t .mate))) .groups)
+          × (placementsIn (observedRow s ss plain (observe offset s (cond b (turnedMate (t .mate)) (t .mate))) .groups) part′ ≡ placementsIf b c (placementsIn (observedRow s ss (byIndex q) (observe offset s (t .mate)) .groups) part))
       go true y x = (
         state-turned offset s ss (t .mate) z y (byIndex q) plain,
-        row-listed offset s ss (byIndex q) (t .mate) ∙ sym (length-turned (mateListed offset s ss (t .mate))) ∙ ap length (sym (read-turned offset s ss (t .mate) z y)) ∙ sym (row-listed offset s ss plain (turnedMate (t .mate))),
+        row-listed offset s ss (byIndex q) (t .mate) ∙ sym (length-turned (observedListed s ss (observe offset s (t .mate)))) ∙ ap length (sym (read-turned offset s ss (t .mate) z y)) ∙ sym (row-listed offset s ss plain (turnedMate (t .mate))),
         part-shows plain (turnedMate (t .mate)) part′ before′ x
             ∙ ap₂ (λ n l. map (placementOf ranked n) l) (length-reverse-complement (t .mate .read .bases)) (read-turned offset s ss (t .mate) z y)
-            ∙ placements-turned c valid (length (t .mate .read .bases)) (mateListed offset s ss (t .mate)) (listed-ranked (t .mate))
+            ∙ placements-turned c valid (length (t .mate .read .bases)) (observedListed s ss (observe offset s (t .mate))) (listed-ranked (t .mate))
             ∙ ap (turnedPlacements c) (sym (part-shows (byIndex q) (t .mate) part before e)),
       )
       go false y x = (
@@ -115,20 +115,20 @@ module _ (q offset : ℕ) (some : 1 ≤ q) (c : Catalogue) (valid : Valid c) (s 
   rest-unrefused r rs z = none-second (mateRefusal offset s r) (firstRefusal (mateRefusal offset s) rs) z
 
   pub all-booked : (ts : List TwinRead) → Unrefused (mates ts) → Unrefused (map plainMate ts) → (books : Books)
-      → bookedAll ranked (map (mateBooked offset s ss (byIndex q)) (mates ts)) books ≡ bookedAll ranked (map (mateBooked offset s ss plain) (map plainMate ts)) books
+      → bookedAll ranked (map (mateBooked offset s ss) (mates ts)) books ≡ bookedAll ranked (map (mateBooked offset s ss) (map plainMate ts)) books
   all-booked [] z z′ books = refl
   all-booked (t ∷ ts) z z′ books =
-      all-booked ts (rest-unrefused (t .mate) (mates ts) z) (rest-unrefused (plainMate t) (map plainMate ts) z′) (bookedOne ranked (mateBooked offset s ss (byIndex q) (t .mate)) books)
-      ∙ ap (bookedAll ranked (map (mateBooked offset s ss plain) (map plainMate ts)))
+      all-booked ts (rest-unrefused (t .mate) (mates ts) z) (rest-unrefused (plainMate t) (map plainMate ts) z′) (bookedOne ranked (mateBooked offset s ss (t .mate)) books)
+      ∙ ap (bookedAll ranked (map (mateBooked offset s ss) (map plainMate ts)))
       (one-booked t (first-unrefused (t .mate) (mates ts) z) (first-unrefused (plainMate t) (map plainMate ts) z′) books)
 
   -- the rows of a read
   abbrev pub twinRow : TwinRead → TwinRow
-  twinRow t = record { first = mateRow offset s ss (byIndex q) (t .mate); second = mateRow offset s ss plain (plainMate t) }
+  twinRow t = record { first = observedRow s ss (byIndex q) (observe offset s (t .mate)); second = observedRow s ss plain (observe offset s (plainMate t)) }
 
   -- each read from the place i on
   pub all-agree : (ts : List TwinRead) → Unrefused (mates ts) → Unrefused (map plainMate ts) → (width width′ i : ℕ) (before after before′ after′ : List ℕ)
-      → InParts cleared width (width * i) (map (mateEntries offset s ss ranked) (mates ts)) before after → InParts cleared width′ (width′ * i) (map (mateEntries offset s ss ranked) (map plainMate ts)) before′ after′
+      → InParts cleared width (width * i) (map ((λ (x : MateRead). observedEntries s ss ranked (observe offset s x))) (mates ts)) before after → InParts cleared width′ (width′ * i) (map ((λ (x : MateRead). observedEntries s ss ranked (observe offset s x))) (map plainMate ts)) before′ after′
       → Each (λ i (t : TwinRead) (x : TwinRow). ReadAgrees c t (x .first) (x .second) (window after (width * i) width) (window after′ (width′ * i) width′)) i ts (map twinRow ts)
   all-agree [] z z′ width width′ i before after before′ after′ p p′ = no-more i
   all-agree (t ∷ ts) z z′ width width′ i before after before′ after′ p p′ =

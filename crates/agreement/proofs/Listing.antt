@@ -17,7 +17,7 @@ use Rattle.indexed_mapper.proofs.Laws.{row-lists}
 use Rattle.audit_rules.specs.declared.settings.Settings.{Settings}
 use Rattle.audit_rules.specs.Settings.{Held}
 use Rattle.audit_rules.specs.Opening.{wayOf}
-use Rattle.audit_rules.specs.Observing.{MateRead, mateRow, mateEntries, mateBooked}
+use Rattle.audit_rules.specs.Observing.{MateRead, mateBooked, observe, observedEntries, observedRow}
 use Rattle.audit_rules.specs.Fragment.{shareOf, entriesLeft, fragmentRefusal, fragmentBooked, fragmentWritten}
 use Rattle.audit_rules.specs.Run.{Call, answerTo, next, books, answers}
 use Rattle.audit_rules.proofs.Opening.{opening-passed}
@@ -31,8 +31,8 @@ use Rattle.agreement.proofs.Turned.{row-listed}
 
 -- a read whose listed groups stand at the front of its part
 read-means : (offset : ℕ) (s : Settings) (c : Catalogue) → Valid c → (way : Way) (r : MateRead) (part part′ : List ℕ)
-    → part′ ≡ placed 0 (mateEntries offset s (mappedSequences c) (suppliedPlaces c) r) (cleared part)
-    → ReadMeans offset s c r (mateRow offset s (mappedSequences c) way r) (mateBooked offset s (mappedSequences c) way r) part part′
+    → part′ ≡ placed 0 (observedEntries s (mappedSequences c) (suppliedPlaces c) (observe offset s r)) (cleared part)
+    → ReadMeans offset s c r (observedRow s (mappedSequences c) way (observe offset s r)) (mateBooked offset s (mappedSequences c) r) part part′
 read-means offset s c right way r part part′ e =
     record {
       bookable = mate-bookable c offset s way r;
@@ -54,24 +54,24 @@ module _ (q offset : ℕ) (c : Catalogue) (h : Held) (x : Call) (rows : List Row
   abbrev width : ℕ
   width = 4 * shareOf (s .mode) (entryCount (x .entries))
 
-  answered : (refusal ≡ 0) × (map (mateRow offset s (mappedSequences c) (wayOf q (x .lent))) (x .fragment .reads) ≡ rows)
+  answered : (refusal ≡ 0) × (map ((λ (x : MateRead). observedRow s (mappedSequences c) (wayOf q (x .lent)) (observe offset s x))) (x .fragment .reads) ≡ rows)
   answered = outcome-accepted refusal _ rows told
 
   -- what its checks have shown
   checked : Checked q offset c (x .lent) h (x .fragment) (entryCount (x .entries))
   checked = fragment-checked q offset c (x .lent) h (x .fragment) (entryCount (x .entries)) (answered .0)
 
-  in-parts : InParts cleared width 0 (map (mateEntries offset s (mappedSequences c) (suppliedPlaces c)) (x .fragment .reads)) (x .entries) (answerTo q offset c h x .entries)
+  in-parts : InParts cleared width 0 (map ((λ (x : MateRead). observedEntries s (mappedSequences c) (suppliedPlaces c) (observe offset s x))) (x .fragment .reads)) (x .entries) (answerTo q offset c h x .entries)
   in-parts =
-      subst (λ n. InParts cleared width 0 (map (mateEntries offset s (mappedSequences c) (suppliedPlaces c)) (x .fragment .reads)) (x .entries) (entriesLeft n (fragmentWritten q offset c (x .lent) h (x .fragment) (x .entries)) (x .entries)))
+      subst (λ n. InParts cleared width 0 (map ((λ (x : MateRead). observedEntries s (mappedSequences c) (suppliedPlaces c) (observe offset s x))) (x .fragment .reads)) (x .entries) (entriesLeft n (fragmentWritten offset c h (x .fragment) (x .entries)) (x .entries)))
       (sym (answered .0)) (reads-in-parts offset s (mappedSequences c) (suppliedPlaces c) (x .fragment .reads) (x .entries) (checked .own .roles) (checked .own .rooms))
 
   -- a read's row, and what is booked of it
   abbrev toldOf : MateRead → Told
-  toldOf r = record { row = mateRow offset s (mappedSequences c) (wayOf q (x .lent)) r; booked = mateBooked offset s (mappedSequences c) (wayOf q (x .lent)) r }
+  toldOf r = record { row = observedRow s (mappedSequences c) (wayOf q (x .lent)) (observe offset s r); booked = mateBooked offset s (mappedSequences c) r }
 
   -- each read from the place i on
-  reads-mean : (reads : List MateRead) (i : ℕ) → InParts cleared width (width * i) (map (mateEntries offset s (mappedSequences c) (suppliedPlaces c)) reads) (x .entries) (answerTo q offset c h x .entries)
+  reads-mean : (reads : List MateRead) (i : ℕ) → InParts cleared width (width * i) (map ((λ (x : MateRead). observedEntries s (mappedSequences c) (suppliedPlaces c) (observe offset s x))) reads) (x .entries) (answerTo q offset c h x .entries)
       → Each (λ i (r : MateRead) (t : Told). ReadMeans offset s c r (t .row) (t .booked) (window (x .entries) (width * i) width) (window (answerTo q offset c h x .entries) (width * i) width)) i reads (map toldOf reads)
   reads-mean [] i p = no-more i
   reads-mean (r ∷ reads) i p =
@@ -80,8 +80,8 @@ module _ (q offset : ℕ) (c : Catalogue) (h : Held) (x : Call) (rows : List Row
       (reads-mean reads (suc i) (rw (mul-suc width i) (p .1)))
 
   -- what is booked of an accepted one
-  books-are : fragmentBooked q offset c (x .lent) h (x .fragment) ≡ books q offset c h x
-  books-are = ap (λ n. ifPassed n (fragmentBooked q offset c (x .lent) h (x .fragment)) []) (sym (answered .0))
+  books-are : fragmentBooked offset c h (x .fragment) ≡ books q offset c h x
+  books-are = ap (λ n. ifPassed n (fragmentBooked offset c h (x .fragment)) []) (sym (answered .0))
 
   fragment-means : ReadsMean offset s c width (x .fragment .reads) rows (books q offset c h x) (x .entries) (answerTo q offset c h x .entries)
   fragment-means =
@@ -98,7 +98,7 @@ refused-books q offset c h x n told =
     let e = outcome-number (fragmentRefusal q offset c (x .lent) h (x .fragment) (entryCount (x .entries))) n _ told in
     rw (e .0) (go n (e .1))
   where
-    go : (m : ℕ) → (m ≡ 0 → ⊥) → ifPassed m (fragmentBooked q offset c (x .lent) h (x .fragment)) [] ≡ []
+    go : (m : ℕ) → (m ≡ 0 → ⊥) → ifPassed m (fragmentBooked offset c h (x .fragment)) [] ≡ []
     go zero ne = absurd (ne refl)
     go (suc m) ne = refl
 

@@ -26,20 +26,20 @@ module _ (q offset : ℕ) (c : Catalogue) (h : Held) (x : Call) where
 
   -- a refused one leaves state and counters as they were
   refused-leaves : (refusal ≡ 0 → ⊥) → next q offset c h x ≡ h
-  refused-leaves ne = refused-holds refusal ne (fragmentAccepted q offset c (x .lent) h (x .fragment)) h
+  refused-leaves ne = refused-holds refusal ne (fragmentAccepted offset c h (x .fragment)) h
 
   -- the books after a call are those before it with what it books
   next-books : heldBooks (next q offset c h x) ≡ bookedAll (suppliedPlaces c) (books q offset c h x) (heldBooks h)
   next-books = go refusal
     where
-      go : (n : ℕ) → heldBooks (ifPassed n (fragmentAccepted q offset c (x .lent) h (x .fragment)) h) ≡ bookedAll (suppliedPlaces c) (ifPassed n (fragmentBooked q offset c (x .lent) h (x .fragment)) []) (heldBooks h)
+      go : (n : ℕ) → heldBooks (ifPassed n (fragmentAccepted offset c h (x .fragment)) h) ≡ bookedAll (suppliedPlaces c) (ifPassed n (fragmentBooked offset c h (x .fragment)) []) (heldBooks h)
       go zero = refl
       go (suc n) = refl
 
   next-countable : countable (heldBooks h) ≡ true → countable (heldBooks (next q offset c h x)) ≡ true
   next-countable = go refusal refl
     where
-      go : (n : ℕ) → refusal ≡ n → countable (heldBooks h) ≡ true → countable (heldBooks (ifPassed n (fragmentAccepted q offset c (x .lent) h (x .fragment)) h)) ≡ true
+      go : (n : ℕ) → refusal ≡ n → countable (heldBooks h) ≡ true → countable (heldBooks (ifPassed n (fragmentAccepted offset c h (x .fragment)) h)) ≡ true
       go zero e t = fragment-checked q offset c (x .lent) h (x .fragment) (entryCount (x .entries)) e .own .counts
       go (suc n) e t = t
 

@@ -20,15 +20,15 @@ use Rattle.seeds.specs.Window.{starts}
 use Rattle.places.specs.Place.{Place, place, placesIn, placesFrom, places, matches, groups}
 use Rattle.places.proofs.Swapping.{matches-turned}
 use Rattle.candidates.proofs.Candidates.{comparable-fewer}
-use Rattle.index_search.specs.Work.{work, scanWork, Way, byIndex, plain, workBy}
+use Rattle.index_search.specs.Work.{work, scanWork, byIndex, plain}
 use Rattle.answers.specs.Bounds.{lengthRight}
-use Rattle.answers.specs.Answer.{stateOf, listed}
+use Rattle.answers.specs.Answer.{listed}
 use Rattle.search.proofs.Listed.{none-listed, row-groups, listed-part}
 use Rattle.indexed_mapper.specs.Laws.{turnedGroups}
 use Rattle.indexed_mapper.proofs.Laws.{row-work, number-turned, listed-turned}
 use Rattle.ledger.specs.Booking.{targetsOf}
 use Rattle.audit_rules.specs.declared.settings.Settings.{Settings}
-use Rattle.audit_rules.specs.Observing.{MateRead, verdictRefusal, isEligible, mateRefusal, isSearched, mateListed, mateRow}
+use Rattle.audit_rules.specs.Observing.{MateRead, verdictRefusal, isEligible, mateRefusal, isSearched, observe, observedListed, observedRow, observedState}
 use Rattle.agreement.specs.Twins.{turnedMate}
 
 -- ---- the ranks of a turned read's groups
@@ -77,53 +77,32 @@ module _ (offset : ℕ) (s : Settings) where
   module _ (ss : List (List ℕ)) where
     -- ---- rows
 
-    -- the state of a read, however it is searched
-    abbrev stateBy : Bool → List Place → ℕ
-    stateBy b gs = cond b (cond (ltb (s .limit) (length gs)) 2 (stateOf (length gs))) (cond (s .remap) 1 0)
-
-    row-state : (way : Way) (m : MateRead) → mateRow offset s ss way m .state ≡ stateBy (isSearched offset s m) (groups ss (m .read .bases))
-    row-state way m =
-        by-test (isSearched offset s m)
-        (λ t. rw t (by-test (ltb (s .limit) (length (groups ss (m .read .bases)))) (λ l. rw l) (λ l. rw l)))
-        (λ t. rw t)
-
-    -- the number of groups of a row is that of the listed ones
-    pub row-listed : (way : Way) (m : MateRead) → mateRow offset s ss way m .groups ≡ length (mateListed offset s ss m)
-    row-listed way m =
-        by-test (isSearched offset s m)
-        (λ t. rw t (row-groups (s .limit) (groups ss (m .read .bases)) (workBy way ss (m .read .bases) (s .limit))))
-        (λ t. rw (t, none-listed (s .limit)))
-
     -- a listed group is a group of the read
-    pub listed-∈ : (m : MateRead) (p : Place) → p ∈ mateListed offset s ss m → p ∈ groups ss (m .read .bases)
+    pub listed-∈ : (m : MateRead) (p : Place) → p ∈ observedListed s ss (observe offset s m) → p ∈ groups ss (m .read .bases)
     listed-∈ m p = listed-part (s .limit) p (isSearched offset s m) (groups ss (m .read .bases))
 
-    -- one read in two ways
-    pub state-same : (way way′ : Way) (m : MateRead) → mateRow offset s ss way m .state ≡ mateRow offset s ss way′ m .state
-    state-same way way′ m = row-state way m ∙ sym (row-state way′ m)
-
     -- by the index it is compared no more often
-    pub read-fewer : (q : ℕ) → 1 ≤ q → (m : MateRead) → mateRow offset s ss (byIndex q) m .work .comparisons ≤ mateRow offset s ss plain m .work .comparisons
+    pub read-fewer : (q : ℕ) → 1 ≤ q → (m : MateRead) → observedRow s ss (byIndex q) (observe offset s m) .work .comparisons ≤ observedRow s ss plain (observe offset s m) .work .comparisons
     unfolding work scanWork
     read-fewer q some m =
         by-test (isSearched offset s m)
-        (λ t. rw (t, row-work (s .limit) (groups ss (m .read .bases)) (work q ss (m .read .bases) (s .limit)), row-work (s .limit) (groups ss (m .read .bases)) (scanWork ss (m .read .bases) (s .limit))) (comparable-fewer q ss (m .read .bases) some (s .limit)))
+        (λ t. rw t (comparable-fewer q ss (m .read .bases) some (s .limit)))
         (λ t. rw t (omega arith))
 
     -- ---- turned
 
     module _ (m : MateRead) (z : mateRefusal offset s m ≡ 0) (z′ : mateRefusal offset s (turnedMate m) ≡ 0) where
-      pub state-turned : (way way′ : Way) → mateRow offset s ss way m .state ≡ mateRow offset s ss way′ (turnedMate m) .state
-      state-turned way way′ = row-state way m ∙ rw (searched-turned m z z′, number-turned ss (m .read .bases)) refl ∙ sym (row-state way′ (turnedMate m))
+      pub state-turned : observedState s ss (observe offset s m) ≡ observedState s ss (observe offset s (turnedMate m))
+      state-turned = rw (searched-turned m z z′, number-turned ss (m .read .bases)) refl
 
       -- the listed groups are those of the read, on the other strands and put back in order
-      pub read-turned : mateListed offset s ss (turnedMate m) ≡ turnedGroups (mateListed offset s ss m)
+      pub read-turned : observedListed s ss (observe offset s (turnedMate m)) ≡ turnedGroups (observedListed s ss (observe offset s m))
       read-turned =
           rw (searched-turned m z z′)
           (by-test (isSearched offset s m) (λ t. rw t (listed-turned ss (m .read .bases) (s .limit))) (λ t. rw (t, none-listed (s .limit))))
 
       -- on the same targets
-      pub targets-turned : (ranked : List ℕ) → targetsOf ranked (mateListed offset s ss m) ≡ targetsOf ranked (mateListed offset s ss (turnedMate m))
+      pub targets-turned : (ranked : List ℕ) → targetsOf ranked (observedListed s ss (observe offset s m)) ≡ targetsOf ranked (observedListed s ss (observe offset s (turnedMate m)))
       targets-turned ranked = rw (searched-turned m z z′) (go (isSearched offset s m))
         where
           go : (b : Bool) → targetsOf ranked (listed (s .limit) (cond b (groups ss (m .read .bases)) [])) ≡ targetsOf ranked (listed (s .limit) (cond b (groups ss (reverseComplement (m .read .bases))) []))

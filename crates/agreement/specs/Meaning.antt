@@ -28,7 +28,7 @@ use Rattle.audit_rules.specs.declared.sheet.Availability.the-variants as totals
 use Rattle.audit_rules.specs.declared.sheet.Sheet.{Sheet}
 use Rattle.audit_rules.specs.Settings.{Held, heldBooks, roleNumber, rolesOf}
 use Rattle.audit_rules.specs.Opening.{IndexLent, openingRefusal}
-use Rattle.audit_rules.specs.Observing.{MateRead, verdictRefusal, noWork, isSearched, mateGroups}
+use Rattle.audit_rules.specs.Observing.{MateRead, verdictRefusal, noWork, isSearched, observe, observedGroups}
 use Rattle.audit_rules.specs.Fragment.{shareOf, fragmentBooks}
 use Rattle.audit_rules.specs.Sheet.{shown, totalsOf, runStatus, roleShown, targetShown, finishRefusal, finishAnswer}
 use Rattle.audit_rules.specs.Run.{Call, Answer, answerTo, next, books, answers, after, history}
@@ -49,8 +49,8 @@ pub record Acceptable (q offset : ℕ) (c : Catalogue) (h : Held) (x : Call) : T
   pub roles : map (λ (r : MateRead). roleNumber (r .role)) (x .fragment .reads) ≡ rolesOf (h .state .settings .mode)
   pub lengths : (r : MateRead) → r ∈ x .fragment .reads → length (r .read .bases) ≤ maxRead
   pub verdicts : h .state .settings .remap ≡ true → (r : MateRead) → r ∈ x .fragment .reads → verdictRefusal (eligibility (h .state .settings .floor) offset (r .read)) ≡ 0
-  pub rooms : (r : MateRead) → r ∈ x .fragment .reads → Roomy (shareOf (h .state .settings .mode) (entryCount (x .entries))) (h .state .settings .limit) (length (mateGroups offset (h .state .settings) (mappedSequences c) r))
-  pub counts : (n : ℕ) → n ∈ kept (fragmentBooks q offset c (x .lent) h (x .fragment)) → n ≤ maxCounter
+  pub rooms : (r : MateRead) → r ∈ x .fragment .reads → Roomy (shareOf (h .state .settings .mode) (entryCount (x .entries))) (h .state .settings .limit) (length (observedGroups (h .state .settings) (mappedSequences c) (observe offset (h .state .settings) r)))
+  pub counts : (n : ℕ) → n ∈ kept (fragmentBooks offset c h (x .fragment)) → n ≤ maxCounter
 
 -- ---- what is answered and booked of a read
 

@@ -52,8 +52,12 @@ stateOf (suc (suc n)) = 5
 abbrev pub listed : ℕ → List Place → List Place
 listed limit gs = cond (ltb limit (length gs)) [] gs
 
+-- the state of a read with so many matches
+abbrev pub mappedState : ℕ → ℕ → ℕ
+mappedState limit n = cond (ltb limit n) 2 (stateOf n)
+
 abbrev pub mappedRow : ℕ → List Place → MappingWork → Row
-mappedRow limit gs w = cond (ltb limit (length gs)) (row 2 0 w) (row (stateOf (length gs)) (length gs) w)
+mappedRow limit gs w = row (mappedState limit (length gs)) (length (listed limit gs)) w
 
 -- 10: more matches than entries, and entries fewer than the limit
 abbrev pub roomRefusal : ℕ → ℕ → ℕ → ℕ

@@ -23,7 +23,7 @@ use Rattle.audit_rules.specs.declared.settings.AuditInputMode.{AuditInpu
 use Rattle.audit_rules.specs.declared.settings.AuditInputMode.the-variants as modes
 use Rattle.audit_rules.specs.declared.settings.Settings.{Settings}
 use Rattle.audit_rules.specs.Settings.{roleNumber, rolesOf}
-use Rattle.audit_rules.specs.Observing.{MateRead, mateGroups, mateRoom, mateListed, mateEntries}
+use Rattle.audit_rules.specs.Observing.{MateRead, observe, observedGroups, observedRoom, observedListed, observedEntries}
 use Rattle.audit_rules.specs.Fragment.{rolesRight, firstRefusal, shareOf, inParts}
 
 -- ---- lists put into parts
@@ -117,27 +117,27 @@ shares-fit mode reads entries t = go mode (sym (length-map reads numbers) ∙ ap
 
 module _ (offset : ℕ) (s : Settings) (ss : List (List ℕ)) (ranked : List ℕ) where
   -- a read's entries fit into its share
-  pub entries-fit : (share : ℕ) (r : MateRead) → mateRoom offset s ss share r ≡ 0 → length (mateEntries offset s ss ranked r) ≤ 4 * share
+  pub entries-fit : (share : ℕ) (r : MateRead) → observedRoom s ss share (observe offset s r) ≡ 0 → length (observedEntries s ss ranked (observe offset s r)) ≤ 4 * share
   entries-fit share r z =
-      let e = length-entries ranked (length (r .read .bases)) (mateListed offset s ss r) in
-      omega (arith, e, listed-room share (s .limit) (mateGroups offset s ss r) z)
+      let e = length-entries ranked (length (r .read .bases)) (observedListed s ss (observe offset s r)) in
+      omega (arith, e, listed-room share (s .limit) (observedGroups s ss (observe offset s r)) z)
 
-  entries-short : (share : ℕ) (reads : List MateRead) → firstRefusal (mateRoom offset s ss share) reads ≡ 0 → Short (4 * share) (map (mateEntries offset s ss ranked) reads)
+  entries-short : (share : ℕ) (reads : List MateRead) → firstRefusal ((λ (x : MateRead). observedRoom s ss share (observe offset s x))) reads ≡ 0 → Short (4 * share) (map ((λ (x : MateRead). observedEntries s ss ranked (observe offset s x))) reads)
   entries-short share [] z = tt
   entries-short share (r ∷ rs) z = (
-    entries-fit share r (none-first (mateRoom offset s ss share r) (firstRefusal (mateRoom offset s ss share) rs) z),
-    entries-short share rs (none-second (mateRoom offset s ss share r) (firstRefusal (mateRoom offset s ss share) rs) z),
+    entries-fit share r (none-first (observedRoom s ss share (observe offset s r)) (firstRefusal ((λ (x : MateRead). observedRoom s ss share (observe offset s x))) rs) z),
+    entries-short share rs (none-second (observedRoom s ss share (observe offset s r)) (firstRefusal ((λ (x : MateRead). observedRoom s ss share (observe offset s x))) rs) z),
   )
 
-  module _ (reads : List MateRead) (b : List ℕ) (roles : rolesRight (s .mode) reads ≡ true) (room : firstRefusal (mateRoom offset s ss (shareOf (s .mode) (entryCount b))) reads ≡ 0) where
+  module _ (reads : List MateRead) (b : List ℕ) (roles : rolesRight (s .mode) reads ≡ true) (room : firstRefusal ((λ (x : MateRead). observedRoom s ss (shareOf (s .mode) (entryCount b)) (observe offset s x))) reads ≡ 0) where
     abbrev width : ℕ
     width = 4 * shareOf (s .mode) (entryCount b)
 
     abbrev lists : List (List ℕ)
-    lists = map (mateEntries offset s ss ranked) reads
+    lists = map ((λ (x : MateRead). observedEntries s ss ranked (observe offset s x))) reads
 
     within : 0 + width * length lists ≤ 4 * entryCount b
-    within = rw (length-map reads (mateEntries offset s ss ranked)) (omega (arith, shares-fit (s .mode) reads (entryCount b) roles))
+    within = rw (length-map reads ((λ (x : MateRead). observedEntries s ss ranked (observe offset s x)))) (omega (arith, shares-fit (s .mode) reads (entryCount b) roles))
 
     -- the entries of each read at the front of its part, which was set to zero
     pub reads-in-parts : InParts cleared width 0 lists b (inParts width 0 lists (cleared b))

@@ -19,7 +19,7 @@ use Rattle.audit_rules.specs.declared.settings.LastOrdinal.{LastOrdinal}
 use Rattle.audit_rules.specs.declared.settings.LastOrdinal.the-variants as ordinals
 use Rattle.audit_rules.specs.Settings.{Held, heldBooks, roleNumber, rolesOf}
 use Rattle.audit_rules.specs.Opening.{IndexLent, wayOf, openingRefusal}
-use Rattle.audit_rules.specs.Observing.{MateRead, mateRefusal, mateRoom, mateRow, mateBooked, mateEntries}
+use Rattle.audit_rules.specs.Observing.{MateRead, mateRefusal, mateBooked, observe, observedRoom, observedEntries, observedRow}
 
 pub record Fragment : Type 0 where
   pub ordinal : ℕ
@@ -57,15 +57,15 @@ inParts width from (l ∷ ls) buffer = inParts width (from + width) ls (placed f
 abbrev pub entriesLeft : ℕ → List ℕ → List ℕ → List ℕ
 entriesLeft n written buffer = ifPassed n written (cond (eqb n 10 || eqb n 17) (cleared buffer) buffer)
 
--- ---- a fragment in a catalogue that was tested: sequences by rank, the supplied place of each, and a way to search them
+-- ---- a fragment in a catalogue that was tested: sequences by rank, and the supplied place of each
 
-module _ (offset : ℕ) (ss : List (List ℕ)) (way : Way) (ranked : List ℕ) (h : Held) (f : Fragment) where
+module _ (offset : ℕ) (ss : List (List ℕ)) (ranked : List ℕ) (h : Held) (f : Fragment) where
   abbrev settings : Settings
   settings = h .state .settings
 
   -- what is booked of its reads
   abbrev pub testedBooked : List Booked
-  testedBooked = map (mateBooked offset settings ss way) (f .reads)
+  testedBooked = map (mateBooked offset settings ss) (f .reads)
 
   -- the books with its reads
   abbrev pub testedBooks : Books
@@ -77,12 +77,12 @@ module _ (offset : ℕ) (ss : List (List ℕ)) (way : Way) (ranked : List ℕ) (
       unless (inOrder (h .state .last) (f .ordinal)) 12
       orElse unless (rolesRight (settings .mode) (f .reads)) 13
       orElse firstRefusal (mateRefusal offset settings) (f .reads)
-      orElse firstRefusal (mateRoom offset settings ss (shareOf (settings .mode) entries)) (f .reads)
+      orElse firstRefusal (λ (r : MateRead). observedRoom settings ss (shareOf (settings .mode) entries) (observe offset settings r)) (f .reads)
       orElse unless (countable testedBooks) 17
 
-  -- a row for each read
-  abbrev pub testedRows : List Row
-  testedRows = map (mateRow offset settings ss way) (f .reads)
+  -- a row for each read, searched in some way
+  abbrev pub testedRows : Way → List Row
+  testedRows way = map (λ (r : MateRead). observedRow settings ss way (observe offset settings r)) (f .reads)
 
   -- accepted, its ordinal is the last, and its reads are booked
   abbrev pub testedAccepted : Held
@@ -96,39 +96,41 @@ module _ (offset : ℕ) (ss : List (List ℕ)) (way : Way) (ranked : List ℕ) (
   abbrev pub testedWritten : List ℕ → List ℕ
   testedWritten buffer =
       inParts (4 * shareOf (settings .mode) (entryCount buffer)) 0
-      (map (mateEntries offset settings ss ranked) (f .reads)) (cleared buffer)
+      (map (λ (r : MateRead). observedEntries settings ss ranked (observe offset settings r)) (f .reads)) (cleared buffer)
 
 -- ---- the call, of an audit with seeds of q bases and qualities from an offset on
 
-module _ (q offset : ℕ) (c : Catalogue) (lent : IndexLent) (h : Held) (f : Fragment) where
+-- what an accepted one books, leaves and writes does not depend on the index
+module _ (offset : ℕ) (c : Catalogue) (h : Held) (f : Fragment) where
   abbrev pub fragmentBooked : List Booked
-  fragmentBooked = testedBooked offset (mappedSequences c) (wayOf q lent) (suppliedPlaces c) h f
+  fragmentBooked = testedBooked offset (mappedSequences c) (suppliedPlaces c) h f
 
   abbrev pub fragmentBooks : Books
-  fragmentBooks = testedBooks offset (mappedSequences c) (wayOf q lent) (suppliedPlaces c) h f
+  fragmentBooks = testedBooks offset (mappedSequences c) (suppliedPlaces c) h f
 
+  abbrev pub fragmentAccepted : Held
+  fragmentAccepted = testedAccepted offset (mappedSequences c) (suppliedPlaces c) h f
+
+  abbrev pub fragmentWritten : List ℕ → List ℕ
+  fragmentWritten = testedWritten offset (mappedSequences c) (suppliedPlaces c) h f
+
+module _ (q offset : ℕ) (c : Catalogue) (lent : IndexLent) (h : Held) (f : Fragment) where
   -- the opening's checks, then its own: the first that holds
   unfoldable pub fragmentRefusal : ℕ → ℕ
   fragmentRefusal entries =
       openingRefusal q offset c lent (h .state .settings) (h .counters)
-      orElse testedRefusal offset (mappedSequences c) (wayOf q lent) (suppliedPlaces c) h f entries
+      orElse testedRefusal offset (mappedSequences c) (suppliedPlaces c) h f entries
 
   abbrev pub fragmentRows : List Row
-  fragmentRows = testedRows offset (mappedSequences c) (wayOf q lent) (suppliedPlaces c) h f
+  fragmentRows = testedRows offset (mappedSequences c) (suppliedPlaces c) h f (wayOf q lent)
 
   -- the answer: a row for each read
   abbrev pub fragmentAnswer : ℕ → Outcome (List Row)
   fragmentAnswer entries = outcome (fragmentRefusal entries) fragmentRows
 
-  abbrev pub fragmentAccepted : Held
-  fragmentAccepted = testedAccepted offset (mappedSequences c) (wayOf q lent) (suppliedPlaces c) h f
-
   -- a refusal leaves state and counters as they were
   abbrev pub fragmentHeld : ℕ → Held
-  fragmentHeld entries = ifPassed (fragmentRefusal entries) fragmentAccepted h
-
-  abbrev pub fragmentWritten : List ℕ → List ℕ
-  fragmentWritten = testedWritten offset (mappedSequences c) (wayOf q lent) (suppliedPlaces c) h f
+  fragmentHeld entries = ifPassed (fragmentRefusal entries) (fragmentAccepted offset c h f) h
 
   abbrev pub fragmentEntries : List ℕ → List ℕ
-  fragmentEntries buffer = entriesLeft (fragmentRefusal (entryCount buffer)) (fragmentWritten buffer) buffer
+  fragmentEntries buffer = entriesLeft (fragmentRefusal (entryCount buffer)) (fragmentWritten offset c h f buffer) buffer

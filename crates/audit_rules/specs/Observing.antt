@@ -10,7 +10,7 @@ use Rattle.places.specs.Place.{Place, groups}
 use Rattle.scan.specs.Entries.{entriesOf}
 use Rattle.index_search.specs.Work.{Way, workOf, workBy}
 use Rattle.answers.specs.Bounds.{lengthRight}
-use Rattle.answers.specs.Answer.{Row, row, listed, mappedRow, roomRefusal}
+use Rattle.answers.specs.Answer.{Row, row, listed, roomRefusal, mappedState}
 use Rattle.index_search.specs.declared.work.MappingWork.{MappingWork}
 use Rattle.ledger.specs.Booking.{Booked}
 use Rattle.audit_rules.specs.declared.settings.MateRole.{MateRole}
@@ -37,36 +37,7 @@ isEligible eligible = true
 abbrev pub noWork : MappingWork
 noWork = workOf 0 0 0 (record { comparisons = 0; seen = 0 })
 
--- ---- a read that passed its checks
-
--- whether it is searched, and its bases
-pub record Sight : Type 0 where
-  pub searched : Bool
-  pub bases : List ℕ
-
--- a read in sequences by rank
-module _ (s : Settings) (ss : List (List ℕ)) where
-  -- its groups; a read that is not searched has none
-  abbrev pub sightGroups : Sight → List Place
-  sightGroups r = cond (r .searched) (groups ss (r .bases)) []
-
-  -- 10, where it has so many entries
-  abbrev pub sightRoom : ℕ → Sight → ℕ
-  sightRoom entries r = roomRefusal entries (s .limit) (length (sightGroups r))
-
-  -- its listed groups
-  abbrev pub sightListed : Sight → List Place
-  sightListed r = listed (s .limit) (sightGroups r)
-
-  -- the entries of its listed groups; `ranked` holds the supplied place of each rank
-  abbrev pub sightEntries : List ℕ → Sight → List ℕ
-  sightEntries ranked r = entriesOf ranked (length (r .bases)) (sightListed r)
-
-  -- its state, the number of its listed groups, and the work of its search; not searched it is Ineligible with remap on, else NotRequested
-  abbrev pub sightRow : Way → Sight → Row
-  sightRow way r = cond (r .searched) (mappedRow (s .limit) (groups ss (r .bases)) (workBy way ss (r .bases) (s .limit))) (row (cond (s .remap) 1 0) 0 noWork)
-
--- ---- a read with its role, under settings, with qualities from an offset on
+-- ---- its checks, under settings, with qualities from an offset on
 
 module _ (offset : ℕ) (s : Settings) where
   -- 7, and with remap on 14 to 16
@@ -77,25 +48,50 @@ module _ (offset : ℕ) (s : Settings) where
   abbrev pub isSearched : MateRead → Bool
   isSearched r = s .remap && isEligible (eligibility (s .floor) offset (r .read))
 
-  abbrev pub sightOf : MateRead → Sight
-  sightOf r = record { searched = isSearched r; bases = r .read .bases }
+-- ---- a read that passed them
 
-  module _ (ss : List (List ℕ)) where
-    abbrev pub mateGroups : MateRead → List Place
-    mateGroups r = sightGroups s ss (sightOf r)
+-- whether it is searched, and its bases
+pub record Observed : Type 0 where
+  pub searched : Bool
+  pub bases : List ℕ
 
-    abbrev pub mateRoom : ℕ → MateRead → ℕ
-    mateRoom entries r = sightRoom s ss entries (sightOf r)
+abbrev pub observe : ℕ → Settings → MateRead → Observed
+observe offset s r = record { searched = isSearched offset s r; bases = r .read .bases }
 
-    abbrev pub mateListed : MateRead → List Place
-    mateListed r = sightListed s ss (sightOf r)
+-- a read in sequences by rank; of all this, only its work depends on the way of searching
+module _ (s : Settings) (ss : List (List ℕ)) where
+  -- its groups; a read that is not searched has none
+  abbrev pub observedGroups : Observed → List Place
+  observedGroups r = cond (r .searched) (groups ss (r .bases)) []
 
-    abbrev pub mateEntries : List ℕ → MateRead → List ℕ
-    mateEntries ranked r = sightEntries s ss ranked (sightOf r)
+  -- 10, where it has so many entries
+  abbrev pub observedRoom : ℕ → Observed → ℕ
+  observedRoom entries r = roomRefusal entries (s .limit) (length (observedGroups r))
 
-    abbrev pub mateRow : Way → MateRead → Row
-    mateRow way r = sightRow s ss way (sightOf r)
+  -- its listed groups
+  abbrev pub observedListed : Observed → List Place
+  observedListed r = listed (s .limit) (observedGroups r)
 
-    -- what is booked of it
-    abbrev pub mateBooked : Way → MateRead → Booked
-    mateBooked way r = record { role = roleNumber (r .role); state = mateRow way r .state; groups = mateListed r }
+  -- the entries of its listed groups; `ranked` holds the supplied place of each rank
+  abbrev pub observedEntries : List ℕ → Observed → List ℕ
+  observedEntries ranked r = entriesOf ranked (length (r .bases)) (observedListed r)
+
+  -- its state, by its groups; not searched it is Ineligible with remap on, else NotRequested
+  abbrev pub observedState : Observed → ℕ
+  observedState r = cond (r .searched) (mappedState (s .limit) (length (groups ss (r .bases)))) (cond (s .remap) 1 0)
+
+  -- what is booked of it, with the number of its role
+  abbrev pub observedBooked : ℕ → Observed → Booked
+  observedBooked role r = record { role = role; state = observedState r; groups = observedListed r }
+
+  -- the work of its search
+  abbrev pub observedWork : Way → Observed → MappingWork
+  observedWork way r = cond (r .searched) (workBy way ss (r .bases) (s .limit)) noWork
+
+  -- its row: its state, the number of its listed groups, and its work
+  abbrev pub observedRow : Way → Observed → Row
+  observedRow way r = row (observedState r) (length (observedListed r)) (observedWork way r)
+
+-- what is booked of a read with its role
+abbrev pub mateBooked : ℕ → Settings → List (List ℕ) → MateRead → Booked
+mateBooked offset s ss r = observedBooked s ss (roleNumber (r .role)) (observe offset s r)

@@ -36,7 +36,7 @@ module _ (q offset : ℕ) (c : Catalogue) where
 
   -- the reads that it books; refused, none
   abbrev pub books : Held → Call → List Booked
-  books h x = ifPassed (fragmentRefusal q offset c (x .lent) h (x .fragment) (entryCount (x .entries))) (fragmentBooked q offset c (x .lent) h (x .fragment)) []
+  books h x = ifPassed (fragmentRefusal q offset c (x .lent) h (x .fragment) (entryCount (x .entries))) (fragmentBooked offset c h (x .fragment)) []
 
   -- ---- calls one after the other, each with the opening's targets and with state and counters as the one before left them
 

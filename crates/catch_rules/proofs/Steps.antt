@@ -106,13 +106,13 @@ module _ (c : Catalogue) (h : Held) where
   abbrev pub linesOf : Fragment → List ℕ
   linesOf f =
       fragmentLines (names c) (f .ordinal) (4 * shareOf (h .state .settings .mode) streamEntries) (f .reads) (fragmentRows auditSeed auditOffset c (lentOf c) h f)
-      (fragmentWritten auditSeed auditOffset c (lentOf c) h f (replicate (4 * streamEntries) 0))
+      (fragmentWritten auditOffset c h f (replicate (4 * streamEntries) 0))
 
   module _ (bytes : List ℕ) where
     pub fragment-accepted : (f : Fragment) (end : ℕ) → Read fragmentIn bytes f end → fragmentRefusal auditSeed auditOffset c (lentOf c) h f streamEntries ≡ 0
-        → Goes (running c h) (3 ∷ bytes) (linesOf f) (running c (fragmentAccepted auditSeed auditOffset c (lentOf c) h f)) (drop end bytes)
+        → Goes (running c h) (3 ∷ bytes) (linesOf f) (running c (fragmentAccepted auditOffset c h f)) (drop end bytes)
     fragment-accepted f end r e more =
-        still-goes (running c h) (3 ∷ bytes ++ more) (linesOf f) (running c (fragmentAccepted auditSeed auditOffset c (lentOf c) h f)) (drop end bytes ++ more)
+        still-goes (running c h) (3 ∷ bytes ++ more) (linesOf f) (running c (fragmentAccepted auditOffset c h f)) (drop end bytes ++ more)
         (when-read fragmentIn audit bytes f end r more ∙ ap (λ n. audited n c h f (drop end bytes ++ more)) e)
 
     pub fragment-refused : (f : Fragment) (end : ℕ) → Read fragmentIn bytes f end → (n : ℕ) → fragmentRefusal auditSeed auditOffset c (lentOf c) h f streamEntries ≡ n → (n ≡ 0 → ⊥)

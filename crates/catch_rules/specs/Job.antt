@@ -62,8 +62,8 @@ abbrev pub audited : ℕ → Catalogue → Held → Fragment → List ℕ → St
 audited zero c h f rest =
     goes
     (fragmentLines (names c) (f .ordinal) (4 * shareOf (h .state .settings .mode) streamEntries) (f .reads) (fragmentRows auditSeed auditOffset c (lentOf c) h f)
-    (fragmentWritten auditSeed auditOffset c (lentOf c) h f (replicate (4 * streamEntries) 0)))
-    (running c (fragmentAccepted auditSeed auditOffset c (lentOf c) h f)) rest
+    (fragmentWritten auditOffset c h f (replicate (4 * streamEntries) 0)))
+    (running c (fragmentAccepted auditOffset c h f)) rest
 audited (suc n) c h f rest = refuses (suc n)
 
 -- 05 with nothing behind it: the sheet, where `finish` is not refused

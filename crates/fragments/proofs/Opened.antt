@@ -1,6 +1,6 @@
 -- A fragment call, from the opening's checks on.
 -- Assumes nothing.
-use mathlib.Core.Path.{_≡_, refl, sym, ap, subst₂, _∙_}
+use mathlib.Core.Path.{_≡_, refl, sym, ap, subst, subst₂, _∙_}
 use mathlib.Core.Bool.{Bool, true, false, _&&_}
 use mathlib.Core.List.{List}
 use Prim.Native.Nat.{ℕ, _≤_}
@@ -87,7 +87,7 @@ module _ (q offset : ℕ) (c : Catalogue) (lent : IndexLent) (h : Held) (f : Fra
   opening = openingRefusal q offset c lent (h .state .settings) (h .counters)
 
   abbrev own : ℕ
-  own = testedRefusal offset (mappedSequences c) (wayOf q lent) (suppliedPlaces c) h f (entryCount entries)
+  own = testedRefusal offset (mappedSequences c) (suppliedPlaces c) h f (entryCount entries)
 
   chain : fragmentRefusal q offset c lent h f (entryCount entries) ≡ (opening orElse own)
   unfolding fragmentRefusal
@@ -97,9 +97,9 @@ module _ (q offset : ℕ) (c : Catalogue) (lent : IndexLent) (h : Held) (f : Fra
   pub call-refused : (n : ℕ) → opening ≡ n → (n ≡ 0 → ⊥) → Audits q offset c lent h f entries (record { answer = fragments.Refused n; state = h .state }) (h .counters) entries
   call-refused n e ne =
       record {
-        answer = outcome-refused n _ ne ∙ ap (λ z. outcome z (testedRows offset (mappedSequences c) (wayOf q lent) (suppliedPlaces c) h f)) (sym all);
-        held = sym (ap (λ z. ifPassed z (fragmentAccepted q offset c lent h f) h) all ∙ refused-holds n ne (fragmentAccepted q offset c lent h f) h);
-        left = sym (ap (λ z. entriesLeft z (fragmentWritten q offset c lent h f entries) entries) all ∙ untouched n ne (λ z. number .1 (e ∙ z)) (λ z. omega (arith, number .0, e, z)) (fragmentWritten q offset c lent h f entries) entries);
+        answer = outcome-refused n _ ne ∙ ap (λ z. outcome z (testedRows offset (mappedSequences c) (suppliedPlaces c) h f (wayOf q lent))) (sym all);
+        held = sym (ap (λ z. ifPassed z (fragmentAccepted offset c h f) h) all ∙ refused-holds n ne (fragmentAccepted offset c h f) h);
+        left = sym (ap (λ z. entriesLeft z (fragmentWritten offset c h f entries) entries) all ∙ untouched n ne (λ z. number .1 (e ∙ z)) (λ z. omega (arith, number .0, e, z)) (fragmentWritten offset c h f entries) entries);
       }
     where
       number : OpeningNumber opening
@@ -112,9 +112,9 @@ module _ (q offset : ℕ) (c : Catalogue) (lent : IndexLent) (h : Held) (f : Fra
   pub call-done : opening ≡ 0 → (r : FragmentAudit) (k : Counters) (entries′ : List ℕ) → TestedAudited offset (mappedSequences c) (wayOf q lent) (suppliedPlaces c) h f r k entries entries′ → Audits q offset c lent h f entries r k entries′
   call-done e r k entries′ t =
       record {
-        answer = t .observed .answer ∙ ap (λ z. outcome z (testedRows offset (mappedSequences c) (wayOf q lent) (suppliedPlaces c) h f)) (sym all);
-        held = t .held ∙ ap (λ z. ifPassed z (fragmentAccepted q offset c lent h f) h) (sym all);
-        left = t .observed .left ∙ ap (λ z. entriesLeft z (fragmentWritten q offset c lent h f entries) entries) (sym all);
+        answer = t .observed .answer ∙ ap (λ z. outcome z (testedRows offset (mappedSequences c) (suppliedPlaces c) h f (wayOf q lent))) (sym all);
+        held = t .held ∙ ap (λ z. ifPassed z (fragmentAccepted offset c h f) h) (sym all);
+        left = t .observed .left ∙ ap (λ z. entriesLeft z (fragmentWritten offset c h f entries) entries) (sym all);
       }
     where
       all : fragmentRefusal q offset c lent h f (entryCount entries) ≡ own

@@ -28,9 +28,8 @@ use Rattle.candidates.proofs.Candidates.{comparable-fewer}
 use Rattle.scan.specs.Entries.{entriesOf, entryCount, cleared}
 use Rattle.scan.proofs.Going.{length-entries}
 use Rattle.index_search.specs.Work.{work, scanWork, Way, byIndex, plain, workBy}
-use Rattle.answers.specs.Answer.{Row, answerOf, listed, mappedRow, roomRefusal}
+use Rattle.answers.specs.Answer.{Row, answerOf, listed, mappedRow, roomRefusal, mappedState}
 use Rattle.search.specs.Answered.{SearchAnswered}
-use Rattle.search.proofs.Listed.{row-groups}
 use Rattle.index_search.specs.declared.work.MappingWork.{MappingWork}
 use Rattle.answers.specs.declared.answer.MapAnswer.{MapAnswer}
 use Rattle.indexed_mapper.specs.Map.{readRefusal, rankedRefusal, mapRefusal, MapsTo}
@@ -38,13 +37,6 @@ use Rattle.indexed_mapper.specs.Match.{Unlisted, Listed, Lists}
 use Rattle.indexed_mapper.specs.Laws.{SearchesAgree, turnedGroups, TurnedAnswer}
 use Rattle.indexed_mapper.proofs.Mapping.{at-capitals}
 use Rattle.indexed_mapper.proofs.Matching.{matchesOf, matches-exactly, matches-ascend, matches-entries}
-
--- ---- the row of a read
-
-module _ (limit : ℕ) (gs : List Place) (w : MappingWork) where
-  -- the work is that of the search
-  pub row-work : mappedRow limit gs w .work ≡ w
-  row-work = by-test (ltb limit (length gs)) (λ t. rw t) (λ t. rw t)
 
 -- ---- one read whose groups stand in front of zeros: demand 2 for whoever searches
 
@@ -101,7 +93,7 @@ module _ (q : ℕ) (c : Catalogue) (ks rs os read : List ℕ) (limit : ℕ) (r :
 
     -- the work is that of the search by index under the limit
     pub map-work : a .work ≡ work q (mappedSequences c) read limit
-    map-work = ap (λ (x : Row). x .work) (sym (none .1)) ∙ row-work limit (groups (mappedSequences c) read) (work q (mappedSequences c) read limit)
+    map-work = ap (λ (x : Row). x .work) (sym (none .1))
 
 -- ---- two searches of one list of sequences
 
@@ -113,10 +105,10 @@ module _ (ss : List (List ℕ)) (ranked read : List ℕ) (limit : ℕ) (way : Wa
   found = outcome-accepted (roomRefusal (entryCount b) limit (length gs)) _ a (sym (s .answer) ∙ told)
 
   search-groups : a .groups ≡ length (listed limit gs)
-  search-groups = ap (λ (x : Row). x .groups) (sym (found .1)) ∙ row-groups limit gs (workBy way ss read limit)
+  search-groups = ap (λ (x : Row). x .groups) (sym (found .1))
 
   search-work : a .work ≡ workBy way ss read limit
-  search-work = ap (λ (x : Row). x .work) (sym (found .1)) ∙ row-work limit gs (workBy way ss read limit)
+  search-work = ap (λ (x : Row). x .work) (sym (found .1))
 
   -- the listed groups stand at the front of the entries
   search-rows : take (4 * a .groups) b′ ≡ entriesOf ranked (length read) (listed limit gs)
@@ -130,11 +122,10 @@ pub searches-agree : (q : ℕ) → 1 ≤ q → (ss : List (List ℕ)) (ranked re
     → (a a′ : Row) → answerOf r ≡ accepted a → answerOf r′ ≡ accepted a′ → SearchesAgree a a′ b′ d′
 unfolding work scanWork
 searches-agree q some ss ranked read limit r r′ b b′ d d′ s s′ a a′ e e′ =
-    let gs : List Place = groups ss read in
     let f = found ss ranked read limit (byIndex q) r b b′ s a e in
     let f′ = found ss ranked read limit plain r′ d d′ s′ a′ e′ in
     record {
-      state = ap (λ (x : Row). x .state) (sym (f .1)) ∙ by-test (ltb limit (length gs)) (λ t. rw t) (λ t. rw t) ∙ ap (λ (x : Row). x .state) (f′ .1);
+      state = ap (λ (x : Row). x .state) (sym (f .1)) ∙ ap (λ (x : Row). x .state) (f′ .1);
       groups = search-groups ss ranked read limit (byIndex q) r b b′ s a e ∙ sym (search-groups ss ranked read limit plain r′ d d′ s′ a′ e′);
       rows = search-rows ss ranked read limit (byIndex q) r b b′ s a e ∙ sym (search-rows ss ranked read limit plain r′ d d′ s′ a′ e′);
       fewer = rw (search-work ss ranked read limit (byIndex q) r b b′ s a e, search-work ss ranked read limit plain r′ d d′ s′ a′ e′) (comparable-fewer q ss read some limit);
@@ -154,13 +145,12 @@ pub search-turned : (ss : List (List ℕ)) (ranked read : List ℕ) (limit : ℕ
     → SearchAnswered way ss ranked read limit r b b′ → SearchAnswered way′ ss ranked (reverseComplement read) limit r′ d d′
     → (a a′ : Row) → answerOf r ≡ accepted a → answerOf r′ ≡ accepted a′ → TurnedAnswer ranked (length read) limit (groups ss read) a a′ d′
 search-turned ss ranked read limit way way′ r r′ b b′ d d′ s s′ a a′ e e′ =
-    let gs : List Place = groups ss read in
     let f = found ss ranked read limit way r b b′ s a e in
     let f′ = found ss ranked (reverseComplement read) limit way′ r′ d d′ s′ a′ e′ in
     record {
-      state = ap (λ (x : Row). x .state) (sym (f .1)) ∙ by-test (ltb limit (length gs)) (λ t. rw (number-turned ss read, t)) (λ t. rw (number-turned ss read, t)) ∙ ap (λ (x : Row). x .state) (f′ .1);
+      state = ap (λ (x : Row). x .state) (sym (f .1)) ∙ ap (mappedState limit) (sym (number-turned ss read)) ∙ ap (λ (x : Row). x .state) (f′ .1);
       groups =
-          search-groups ss ranked read limit way r b b′ s a e ∙ by-test (ltb limit (length gs)) (λ t. rw (number-turned ss read, t)) (λ t. rw (number-turned ss read, t) (sym (number-turned ss read)))
+          search-groups ss ranked read limit way r b b′ s a e ∙ by-test (ltb limit (length (groups ss read))) (λ t. rw (number-turned ss read, t)) (λ t. rw (number-turned ss read, t) (sym (number-turned ss read)))
           ∙ sym (search-groups ss ranked (reverseComplement read) limit way′ r′ d d′ s′ a′ e′);
       rows = search-rows ss ranked (reverseComplement read) limit way′ r′ d d′ s′ a′ e′ ∙ ap₂ (λ n l. entriesOf ranked n l) (length-reverse-complement read) (listed-turned ss read limit);
     }

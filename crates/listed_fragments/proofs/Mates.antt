@@ -59,28 +59,28 @@ crowd-number h ordinal = go (inOrder (h .state .last) ordinal)
     go false = (λ e. omega arith, λ e. omega arith, λ e. omega arith)
 
 module _ (offset : ℕ) (ss : List (List ℕ)) (way : Way) (ranked : List ℕ) (h : Held) where
-  crowd-refused : (f : Fragment) → 3 ≤ length (f .reads) → (entries : ℕ) → testedRefusal offset ss way ranked h f entries ≡ crowdRefusal h (f .ordinal)
+  crowd-refused : (f : Fragment) → 3 ≤ length (f .reads) → (entries : ℕ) → testedRefusal offset ss ranked h f entries ≡ crowdRefusal h (f .ordinal)
   unfolding testedRefusal
   crowd-refused f many entries = rw (too-many (h .state .settings .mode) (f .reads) many)
 
   -- what a refusal answers and leaves, whatever the reads are
   module _ (f f′ : Fragment) (r : FragmentAudit) (k : Counters) (b b′ : List ℕ) (n : ℕ) (nonzero : n ≡ 0 → ⊥) (other : (n ≡ 10 → ⊥) × (n ≡ 17 → ⊥))
-      (e : testedRefusal offset ss way ranked h f (entryCount b) ≡ n) (e′ : testedRefusal offset ss way ranked h f′ (entryCount b) ≡ n) where
+      (e : testedRefusal offset ss ranked h f (entryCount b) ≡ n) (e′ : testedRefusal offset ss ranked h f′ (entryCount b) ≡ n) where
     refused-alike : TestedAudited offset ss way ranked h f r k b b′ → TestedAudited offset ss way ranked h f′ r k b b′
     refused-alike t =
         record {
           observed =
               record {
                 answer =
-                    t .observed .answer ∙ ap (λ z. outcome z (testedRows offset ss way ranked h f)) e ∙ sym (outcome-refused n (testedRows offset ss way ranked h f) nonzero)
-                    ∙ outcome-refused n (testedRows offset ss way ranked h f′) nonzero ∙ ap (λ z. outcome z (testedRows offset ss way ranked h f′)) (sym e′);
+                    t .observed .answer ∙ ap (λ z. outcome z (testedRows offset ss ranked h f way)) e ∙ sym (outcome-refused n (testedRows offset ss ranked h f way) nonzero)
+                    ∙ outcome-refused n (testedRows offset ss ranked h f′ way) nonzero ∙ ap (λ z. outcome z (testedRows offset ss ranked h f′ way)) (sym e′);
                 left =
-                    t .observed .left ∙ ap (λ z. entriesLeft z (testedWritten offset ss way ranked h f b) b) e ∙ untouched n nonzero (other .0) (other .1) (testedWritten offset ss way ranked h f b) b
-                    ∙ sym (untouched n nonzero (other .0) (other .1) (testedWritten offset ss way ranked h f′ b) b) ∙ ap (λ z. entriesLeft z (testedWritten offset ss way ranked h f′ b) b) (sym e′);
+                    t .observed .left ∙ ap (λ z. entriesLeft z (testedWritten offset ss ranked h f b) b) e ∙ untouched n nonzero (other .0) (other .1) (testedWritten offset ss ranked h f b) b
+                    ∙ sym (untouched n nonzero (other .0) (other .1) (testedWritten offset ss ranked h f′ b) b) ∙ ap (λ z. entriesLeft z (testedWritten offset ss ranked h f′ b) b) (sym e′);
               };
           held =
-              t .held ∙ ap (λ z. ifPassed z (testedAccepted offset ss way ranked h f) h) e ∙ refused-holds n nonzero (testedAccepted offset ss way ranked h f) h
-              ∙ sym (refused-holds n nonzero (testedAccepted offset ss way ranked h f′) h) ∙ ap (λ z. ifPassed z (testedAccepted offset ss way ranked h f′) h) (sym e′);
+              t .held ∙ ap (λ z. ifPassed z (testedAccepted offset ss ranked h f) h) e ∙ refused-holds n nonzero (testedAccepted offset ss ranked h f) h
+              ∙ sym (refused-holds n nonzero (testedAccepted offset ss ranked h f′) h) ∙ ap (λ z. ifPassed z (testedAccepted offset ss ranked h f′) h) (sym e′);
         }
 
   -- ---- so the first two of a list stand for its reads

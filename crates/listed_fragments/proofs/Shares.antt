@@ -8,6 +8,7 @@ use native.Mathlib.Omega.{arith}
 use lib.ListN.{length, take, drop, length-append, length-map}
 use lib.Dec.{eqb}
 use lib.Seq.{take-at, drop-at, length-take-le}
+use Rattle.audit_rules.specs.Observing.{observe, observedRow, MateRead}
 use Rattle.promises.specs.Refusal.{outcome, ifPassed}
 use Rattle.seeds.specs.Seeds.{placed}
 use Rattle.seeds.proofs.Storing.{length-placed}
@@ -20,7 +21,6 @@ use Rattle.ledger.specs.Counting.{Ranked}
 use Rattle.ledger.proofs.Booking.{booked-lengths}
 use Rattle.audit_rules.specs.declared.settings.Settings.{Settings}
 use Rattle.audit_rules.specs.Settings.{Held, heldBooks}
-use Rattle.audit_rules.specs.Observing.{mateRow}
 use Rattle.audit_rules.specs.Fragment.{entriesLeft, testedBooked, testedRefusal, testedRows, testedAccepted, testedWritten}
 use Rattle.audit_rules.specs.Run.{Call}
 use Rattle.audit_rules.proofs.Checking.{tested-checked}
@@ -63,27 +63,27 @@ held-alike (suc n) booked h a = record { settings = refl; placements = refl; sin
 
 module _ (offset : ℕ) (ss : List (List ℕ)) (way : Way) (ranked : List ℕ) (h : Held) (x : Call) where
   abbrev refusal : ℕ
-  refusal = testedRefusal offset ss way ranked h (x .fragment) (entryCount (x .entries))
+  refusal = testedRefusal offset ss ranked h (x .fragment) (entryCount (x .entries))
 
   -- eight numbers for each read
   pub length-told : length (outcomeRows (length (x .fragment .reads)) (testedAnswer offset ss way ranked h x .rows)) ≡ 8 * length (x .fragment .reads)
   length-told = go refusal
     where
-      go : (n : ℕ) → length (outcomeRows (length (x .fragment .reads)) (outcome n (testedRows offset ss way ranked h (x .fragment)))) ≡ 8 * length (x .fragment .reads)
-      go zero = length-rows-in (testedRows offset ss way ranked h (x .fragment)) ∙ ap (λ n. 8 * n) (length-map (x .fragment .reads) (mateRow offset (h .state .settings) ss way))
+      go : (n : ℕ) → length (outcomeRows (length (x .fragment .reads)) (outcome n (testedRows offset ss ranked h (x .fragment) way))) ≡ 8 * length (x .fragment .reads)
+      go zero = length-rows-in (testedRows offset ss ranked h (x .fragment) way) ∙ ap (λ n. 8 * n) (length-map (x .fragment .reads) ((λ (x : MateRead). observedRow (h .state .settings) ss way (observe offset (h .state .settings) x))))
       go (suc n) = length-refused (suc n) (length (x .fragment .reads))
 
   -- the share stays as long as it is
   pub length-share : length (testedAnswer offset ss way ranked h x .entries) ≡ length (x .entries)
   length-share =
-      length-left refusal (testedWritten offset ss way ranked h (x .fragment) (x .entries)) (x .entries)
+      length-left refusal (testedWritten offset ss ranked h (x .fragment) (x .entries)) (x .entries)
       (λ z. let t = tested-checked offset ss way ranked h (x .fragment) (entryCount (x .entries)) z in
       length-written offset (h .state .settings) ss ranked (x .fragment .reads) (x .entries) (t .roles) (t .rooms))
 
   pub next-alike : Alike h (testedNext offset ss way ranked h x)
   next-alike =
-      let l = booked-lengths ranked (testedBooked offset ss way ranked h (x .fragment)) (heldBooks h) in
-      held-alike refusal (testedAccepted offset ss way ranked h (x .fragment)) h (record { settings = refl; placements = l .placements; singles = l .singles; multi = l .multi })
+      let l = booked-lengths ranked (testedBooked offset ss ranked h (x .fragment)) (heldBooks h) in
+      held-alike refusal (testedAccepted offset ss ranked h (x .fragment)) h (record { settings = refl; placements = l .placements; singles = l .singles; multi = l .multi })
 
 -- ---- a list behind the front of a buffer
 

@@ -39,14 +39,14 @@ module _ (offset : ℕ) (ss : List (List ℕ)) (way : Way) (ranked : List ℕ) w
 
   abbrev pub testedAnswer : Held → Call → Answer
   testedAnswer h x =
-      let refusal : ℕ = testedRefusal offset ss way ranked h (x .fragment) (entryCount (x .entries)) in
+      let refusal : ℕ = testedRefusal offset ss ranked h (x .fragment) (entryCount (x .entries)) in
       record {
-        rows = outcome refusal (testedRows offset ss way ranked h (x .fragment));
-        entries = entriesLeft refusal (testedWritten offset ss way ranked h (x .fragment) (x .entries)) (x .entries);
+        rows = outcome refusal (testedRows offset ss ranked h (x .fragment) way);
+        entries = entriesLeft refusal (testedWritten offset ss ranked h (x .fragment) (x .entries)) (x .entries);
       }
 
   abbrev pub testedNext : Held → Call → Held
-  testedNext h x = ifPassed (testedRefusal offset ss way ranked h (x .fragment) (entryCount (x .entries))) (testedAccepted offset ss way ranked h (x .fragment)) h
+  testedNext h x = ifPassed (testedRefusal offset ss ranked h (x .fragment) (entryCount (x .entries))) (testedAccepted offset ss ranked h (x .fragment)) h
 
   -- ---- calls one after the other
 

@@ -32,9 +32,9 @@ module _ (q offset : ℕ) (c : Catalogue) (lent : IndexLent) where
   unfolding openingRefusal
   passes-alike h h′ a p = rw (a .settings, a .placements, a .singles, a .multi) p
 
-  own : (h : Held) → Passes h → (f : Fragment) (entries : ℕ) → fragmentRefusal q offset c lent h f entries ≡ testedRefusal offset ss way (suppliedPlaces c) h f entries
+  own : (h : Held) → Passes h → (f : Fragment) (entries : ℕ) → fragmentRefusal q offset c lent h f entries ≡ testedRefusal offset ss (suppliedPlaces c) h f entries
   unfolding fragmentRefusal
-  own h p f entries = ap (λ n. n orElse testedRefusal offset ss way (suppliedPlaces c) h f entries) p
+  own h p f entries = ap (λ n. n orElse testedRefusal offset ss (suppliedPlaces c) h f entries) p
 
   module _ (h : Held) (p : Passes h) (f : Fragment) (es : List ℕ) where
     abbrev call : Call
@@ -42,10 +42,10 @@ module _ (q offset : ℕ) (c : Catalogue) (lent : IndexLent) where
 
     answer-same : answerTo q offset c h call ≡ testedAnswer offset ss way (suppliedPlaces c) h call
     answer-same =
-        ap {B = Answer} (λ n. record { rows = outcome n (fragmentRows q offset c lent h f); entries = entriesLeft n (fragmentWritten q offset c lent h f es) es }) (own h p f (entryCount es))
+        ap {B = Answer} (λ n. record { rows = outcome n (fragmentRows q offset c lent h f); entries = entriesLeft n (fragmentWritten offset c h f es) es }) (own h p f (entryCount es))
 
     next-same : next q offset c h call ≡ testedNext offset ss way (suppliedPlaces c) h call
-    next-same = ap (λ n. ifPassed n (fragmentAccepted q offset c lent h f) h) (own h p f (entryCount es))
+    next-same = ap (λ n. ifPassed n (fragmentAccepted offset c h f) h) (own h p f (entryCount es))
 
   module _ (width : ℕ) where
     pub after-same : (h : Held) → Passes h → (es : List ℕ) (fs : List Fragment) → after q offset c h (callsOf lent width es fs) ≡ testedAfter offset ss way (suppliedPlaces c) h (callsOf lent width es fs)

@@ -19,8 +19,8 @@ use Rattle.answers.specs.Answer.{listed, roomRefusal}
 use Rattle.search.specs.Answered.{searchEntries}
 use Rattle.search.proofs.Parts.{listed-room, read-entries-length}
 use Rattle.audit_rules.specs.declared.settings.Settings.{Settings}
-use Rattle.audit_rules.specs.Observing.{sightRoom, sightEntries}
-use Rattle.sighting.specs.Sights.{sight}
+use Rattle.audit_rules.specs.Observing.{observedRoom, observedEntries}
+use Rattle.sighting.specs.Sights.{asObserved}
 
 -- ---- numbers behind the last whole entry
 
@@ -86,7 +86,7 @@ module _ (s : Settings) (ss : List (List ℕ)) (ranked read : List ℕ) where
     part = window b from width
 
     -- an accepted read in a part of zeros
-    pub left-written : (searched : Bool) → part ≡ cleared part → sightRoom s ss (entryCount part) (sight searched read) ≡ 0 → placed from (leftIn searched part) b ≡ placed from (sightEntries s ss ranked (sight searched read)) b
+    pub left-written : (searched : Bool) → part ≡ cleared part → observedRoom s ss (entryCount part) (asObserved searched read) ≡ 0 → placed from (leftIn searched part) b ≡ placed from (observedEntries s ss ranked (asObserved searched read)) b
     left-written true zeros z =
         let rows = entriesOf ranked (length read) (listed (s .limit) (groups ss read)) in
         let short : length rows ≤ width = omega (arith, length-entries ranked (length read) (listed (s .limit) (groups ss read)), listed-room (entryCount part) (s .limit) (groups ss read) z, length-window b from width room) in

@@ -31,13 +31,13 @@ use Rattle.audit_rules.proofs.calls.FragmentAnswer.{the-type}
 use Rattle.audit_rules.specs.declared.settings.AuditInputMode.{AuditInputMode}
 use Rattle.audit_rules.specs.declared.settings.AuditInputMode.the-variants as modes
 use Rattle.audit_rules.specs.declared.settings.Settings.{Settings}
-use Rattle.audit_rules.specs.Observing.{Sight, sightGroups, sightRoom, sightListed, sightEntries, sightRow}
+use Rattle.audit_rules.specs.Observing.{Observed, observedGroups, observedRoom, observedListed, observedEntries, observedRow}
 use Rattle.audit_rules.specs.Fragment.{firstRefusal, shareOf, inParts}
 use Rattle.audit_rules.specs.Calls.{mappingRow, fragmentOutcome}
 use Rattle.audit_rules.proofs.Parts.{cleared-part}
 use Rattle.checking.specs.Checks.{byMode}
-use Rattle.sighting.specs.Sights.{sight, ReadObserved}
-use Rattle.observing.specs.Reads.{sights, SecondObserved, ReadsObserved}
+use Rattle.sighting.specs.Sights.{asObserved, ReadObserved}
+use Rattle.observing.specs.Reads.{observedReads, SecondObserved, ReadsObserved}
 use Rattle.observing.proofs.Filled.{Within, within-placed, within-cleared, within-zeros, cleared-self, leftIn, left-length, left-written}
 
 -- ---- shares
@@ -88,14 +88,14 @@ not-refused (fragments.Paired m) n rows t e = outcome-accepted n rows (mappingRo
 -- ---- the reads of a fragment, in entries that were set to zero
 
 module _ (s : Settings) (ss : List (List ℕ)) (way : Way) (ranked : List ℕ) (first : List ℕ) (f : Bool) (second : List ℕ) (g : Bool) (b b₁ : List ℕ) (zeros : b₁ ≡ cleared b) (share : ℕ) (shared : share ≡ shareOf (s .mode) (entryCount b₁)) where
-  abbrev x : Sight
-  x = sight f first
+  abbrev x : Observed
+  x = asObserved f first
 
-  abbrev y : Sight
-  y = sight g second
+  abbrev y : Observed
+  y = asObserved g second
 
-  abbrev room : Sight → ℕ
-  room r = sightRoom s ss (shareOf (s .mode) (entryCount b)) r
+  abbrev room : Observed → ℕ
+  room r = observedRoom s ss (shareOf (s .mode) (entryCount b)) r
 
   abbrev width : ℕ
   width = 4 * shareOf (s .mode) (entryCount b)
@@ -124,8 +124,8 @@ module _ (s : Settings) (ss : List (List ℕ)) (way : Way) (ranked : List ℕ) (
     here : ReadObserved s ss way ranked first f 0 width r (cleared b) b₂
     here = rw (← share-is, ← zeros) observed
 
-    said : answerOf r ≡ outcome (room x) (sightRow s ss way x)
-    said = here .answer ∙ ap (λ n. outcome (sightRoom s ss n x) (sightRow s ss way x)) (count 0 one-fits (cleared b) (length-cleared b))
+    said : answerOf r ≡ outcome (room x) (observedRow s ss way x)
+    said = here .answer ∙ ap (λ n. outcome (observedRoom s ss n x) (observedRow s ss way x)) (count 0 one-fits (cleared b) (length-cleared b))
 
     -- nothing behind the last whole entry is touched
     first-within : Within b b₂
@@ -135,32 +135,32 @@ module _ (s : Settings) (ss : List (List ℕ)) (way : Way) (ranked : List ℕ) (
         rw (here .entries) (within-placed b (cleared b) (within-zeros b) 0 (leftIn s ss ranked first f (window (cleared b) 0 width)) (omega (arith, one-fits, l, n)))
 
     -- the first read is refused
-    pub one-refused : (n : ℕ) → r ≡ answers.Refused n → (k : ℕ) → k ≡ 10 → (b₃ : List ℕ) → b₃ ≡ cleared b₂ → ReadsObserved s ss way ranked (sights s f first g second) (fragments.Refused k) b b₃
+    pub one-refused : (n : ℕ) → r ≡ answers.Refused n → (k : ℕ) → k ≡ 10 → (b₃ : List ℕ) → b₃ ≡ cleared b₂ → ReadsObserved s ss way ranked (observedReads s f first g second) (fragments.Refused k) b b₃
     one-refused n e k d b₃ z =
-        let t = outcome-number (room x) n (sightRow s ss way x) (sym said ∙ ap answerOf e) in
-        let u : room x ≡ 10 = ten (shareOf (s .mode) (entryCount b)) (s .limit) (length (sightGroups s ss x)) (λ v. t .1 (sym (t .0) ∙ v)) in
+        let t = outcome-number (room x) n (observedRow s ss way x) (sym said ∙ ap answerOf e) in
+        let u : room x ≡ 10 = ten (shareOf (s .mode) (entryCount b)) (s .limit) (length (observedGroups s ss x)) (λ v. t .1 (sym (t .0) ∙ v)) in
         let q : firstRefusal room (byMode (s .mode) x y) ≡ 10 = first-of-mode room x y (s .mode) 9 u in
         record { answer = rw (q, d); entries = rw q (z ∙ within-cleared b b₂ first-within) }
 
     module _ (m : Mapping) (e : r ≡ answers.Mapped m) where
-      one-said : (room x ≡ 0) × (sightRow s ss way x ≡ mappingRow m)
-      one-said = outcome-accepted (room x) (sightRow s ss way x) (mappingRow m) (sym said ∙ ap answerOf e)
+      one-said : (room x ≡ 0) × (observedRow s ss way x ≡ mappingRow m)
+      one-said = outcome-accepted (room x) (observedRow s ss way x) (mappingRow m) (sym said ∙ ap answerOf e)
 
-      one-written : b₂ ≡ placed 0 (sightEntries s ss ranked x) (cleared b)
+      one-written : b₂ ≡ placed 0 (observedEntries s ss ranked x) (cleared b)
       one-written =
           let c = count 0 one-fits (cleared b) (length-cleared b) in
-          here .entries ∙ left-written s ss ranked first 0 width (cleared b) (omega (arith, one-fits, length-cleared b)) f (zero-part 0 one-fits (cleared b) (length-cleared b) refl) (ap (λ n. sightRoom s ss n x) c ∙ one-said .0)
+          here .entries ∙ left-written s ss ranked first 0 width (cleared b) (omega (arith, one-fits, length-cleared b)) f (zero-part 0 one-fits (cleared b) (length-cleared b) refl) (ap (λ n. observedRoom s ss n x) c ∙ one-said .0)
 
       -- a read alone
-      pub one-mapped : s .mode ≡ modes.SingleEnd → ReadsObserved s ss way ranked (sights s f first g second) (fragments.Single m) b b₂
+      pub one-mapped : s .mode ≡ modes.SingleEnd → ReadsObserved s ss way ranked (observedReads s f first g second) (fragments.Single m) b b₂
       one-mapped k =
           let q : firstRefusal room (byMode (s .mode) x y) ≡ 0 = none-of-mode room x y (s .mode) k (one-said .0) in
           record { answer = rw q (single (s .mode) k); entries = rw q (one-written ∙ alone (s .mode) k) }
         where
-          single : (mode : AuditInputMode) → mode ≡ modes.SingleEnd → accepted (mappingRow m ∷ []) ≡ accepted (map (sightRow s ss way) (byMode mode x y))
+          single : (mode : AuditInputMode) → mode ≡ modes.SingleEnd → accepted (mappingRow m ∷ []) ≡ accepted (map (observedRow s ss way) (byMode mode x y))
           single mode k = rw (k, one-said .1)
 
-          alone : (mode : AuditInputMode) → mode ≡ modes.SingleEnd → placed 0 (sightEntries s ss ranked x) (cleared b) ≡ inParts width 0 (map (sightEntries s ss ranked) (byMode mode x y)) (cleared b)
+          alone : (mode : AuditInputMode) → mode ≡ modes.SingleEnd → placed 0 (observedEntries s ss ranked x) (cleared b) ≡ inParts width 0 (map (observedEntries s ss ranked) (byMode mode x y)) (cleared b)
           alone mode k = rw k
 
       -- a pair
@@ -175,22 +175,22 @@ module _ (s : Settings) (ss : List (List ℕ)) (way : Way) (ranked : List ℕ) (
         second-part : window b₂ width width ≡ window (cleared b) width width
         second-part =
             let z : 0 + width ≡ width = omega arith in
-            let d : drop width b₂ ≡ drop width (cleared b) = ap (λ l. drop width l) one-written ∙ (rw z at (placed-behind 0 (sightEntries s ss ranked x) (cleared b) width first-short (omega (arith, one-fits, length-cleared b)))) in
+            let d : drop width b₂ ≡ drop width (cleared b) = ap (λ l. drop width l) one-written ∙ (rw z at (placed-behind 0 (observedEntries s ss ranked x) (cleared b) width first-short (omega (arith, one-fits, length-cleared b)))) in
             ap (λ l. take width l) d
           where
-            first-short : length (sightEntries s ss ranked x) ≤ width
-            first-short = omega (arith, length-entries ranked (length first) (sightListed s ss x), listed-room (shareOf (s .mode) (entryCount b)) (s .limit) (sightGroups s ss x) (one-said .0))
+            first-short : length (observedEntries s ss ranked x) ≤ width
+            first-short = omega (arith, length-entries ranked (length first) (observedListed s ss x), listed-room (shareOf (s .mode) (entryCount b)) (s .limit) (observedGroups s ss x) (one-said .0))
 
-        said₂ : fragmentOutcome r₂ ≡ outcome (room y) (mappingRow m ∷ sightRow s ss way y ∷ [])
-        said₂ = there .answer ∙ ap (λ n. outcome (sightRoom s ss n y) (mappingRow m ∷ sightRow s ss way y ∷ [])) (count width two-fit b₂ (first-within .same))
+        said₂ : fragmentOutcome r₂ ≡ outcome (room y) (mappingRow m ∷ observedRow s ss way y ∷ [])
+        said₂ = there .answer ∙ ap (λ n. outcome (observedRoom s ss n y) (mappingRow m ∷ observedRow s ss way y ∷ [])) (count width two-fit b₂ (first-within .same))
 
         rooms : firstRefusal room (byMode (s .mode) x y) ≡ room y
         rooms = second-of-mode room x y (s .mode) k (one-said .0)
 
-        both-rows : (mode : AuditInputMode) → mode ≡ modes.PairedEnd → (mappingRow m ∷ sightRow s ss way y ∷ []) ≡ map (sightRow s ss way) (byMode mode x y)
+        both-rows : (mode : AuditInputMode) → mode ≡ modes.PairedEnd → (mappingRow m ∷ observedRow s ss way y ∷ []) ≡ map (observedRow s ss way) (byMode mode x y)
         both-rows mode k = rw (k, one-said .1)
 
-        two-said : fragmentOutcome r₂ ≡ outcome (firstRefusal room (byMode (s .mode) x y)) (map (sightRow s ss way) (byMode (s .mode) x y))
+        two-said : fragmentOutcome r₂ ≡ outcome (firstRefusal room (byMode (s .mode) x y)) (map (observedRow s ss way) (byMode (s .mode) x y))
         two-said = said₂ ∙ ap₂ (λ n rows. outcome n rows) (sym rooms) (both-rows (s .mode) k)
 
         second-within : Within b b₃
@@ -200,23 +200,23 @@ module _ (s : Settings) (ss : List (List ℕ)) (way : Way) (ranked : List ℕ) (
             rw (there .entries) (within-placed b b₂ first-within width (leftIn s ss ranked second g (window b₂ width width)) (omega (arith, two-fit, l, n)))
 
         -- the second read is refused
-        pub two-refused : (n : ℕ) → r₂ ≡ fragments.Refused n → (b₄ : List ℕ) → b₄ ≡ cleared b₃ → ReadsObserved s ss way ranked (sights s f first g second) (fragments.Refused n) b b₄
+        pub two-refused : (n : ℕ) → r₂ ≡ fragments.Refused n → (b₄ : List ℕ) → b₄ ≡ cleared b₃ → ReadsObserved s ss way ranked (observedReads s f first g second) (fragments.Refused n) b b₄
         two-refused n e₂ b₄ z =
-            let t = outcome-number (room y) n (mappingRow m ∷ sightRow s ss way y ∷ []) (sym said₂ ∙ ap fragmentOutcome e₂) in
-            let u : room y ≡ 10 = ten (shareOf (s .mode) (entryCount b)) (s .limit) (length (sightGroups s ss y)) (λ v. t .1 (sym (t .0) ∙ v)) in
+            let t = outcome-number (room y) n (mappingRow m ∷ observedRow s ss way y ∷ []) (sym said₂ ∙ ap fragmentOutcome e₂) in
+            let u : room y ≡ 10 = ten (shareOf (s .mode) (entryCount b)) (s .limit) (length (observedGroups s ss y)) (λ v. t .1 (sym (t .0) ∙ v)) in
             let q : firstRefusal room (byMode (s .mode) x y) ≡ 10 = rooms ∙ u in
             record { answer = ap fragmentOutcome (sym e₂) ∙ two-said; entries = rw q (z ∙ within-cleared b b₃ second-within) }
 
         -- both are mapped
-        pub two-mapped : OneOf (1 ∷ 2 ∷ []) (tagOf the-type r₂) → ReadsObserved s ss way ranked (sights s f first g second) r₂ b b₃
+        pub two-mapped : OneOf (1 ∷ 2 ∷ []) (tagOf the-type r₂) → ReadsObserved s ss way ranked (observedReads s f first g second) r₂ b b₃
         two-mapped t =
-            let u : room y ≡ 0 = not-refused r₂ (room y) (mappingRow m ∷ sightRow s ss way y ∷ []) t said₂ in
+            let u : room y ≡ 0 = not-refused r₂ (room y) (mappingRow m ∷ observedRow s ss way y ∷ []) t said₂ in
             let q : firstRefusal room (byMode (s .mode) x y) ≡ 0 = rooms ∙ u in
             let c = count width two-fit b₂ (first-within .same) in
-            let w = left-written s ss ranked second width width b₂ (omega (arith, two-fit, first-within .same)) g (zero-part width two-fit b₂ (first-within .same) second-part) (ap (λ n. sightRoom s ss n y) c ∙ u) in
-            record { answer = two-said; entries = rw q (there .entries ∙ w ∙ ap (λ l. placed width (sightEntries s ss ranked y) l) one-written ∙ both-parts (s .mode) k) }
+            let w = left-written s ss ranked second width width b₂ (omega (arith, two-fit, first-within .same)) g (zero-part width two-fit b₂ (first-within .same) second-part) (ap (λ n. observedRoom s ss n y) c ∙ u) in
+            record { answer = two-said; entries = rw q (there .entries ∙ w ∙ ap (λ l. placed width (observedEntries s ss ranked y) l) one-written ∙ both-parts (s .mode) k) }
           where
-            both-parts : (mode : AuditInputMode) → mode ≡ modes.PairedEnd → placed width (sightEntries s ss ranked y) (placed 0 (sightEntries s ss ranked x) (cleared b)) ≡ inParts width 0 (map (sightEntries s ss ranked) (byMode mode x y)) (cleared b)
+            both-parts : (mode : AuditInputMode) → mode ≡ modes.PairedEnd → placed width (observedEntries s ss ranked y) (placed 0 (observedEntries s ss ranked x) (cleared b)) ≡ inParts width 0 (map (observedEntries s ss ranked) (byMode mode x y)) (cleared b)
             both-parts mode k =
                 let z : width ≡ 0 + width = omega arith in
-                rw k (ap (λ n. placed n (sightEntries s ss ranked y) (placed 0 (sightEntries s ss ranked x) (cleared b))) z)
+                rw k (ap (λ n. placed n (observedEntries s ss ranked y) (placed 0 (observedEntries s ss ranked x) (cleared b))) z)

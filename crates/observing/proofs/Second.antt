@@ -15,9 +15,9 @@ use Rattle.answers.specs.declared.answer.MapAnswer.the-variants as answers
 use Rattle.answers.specs.declared.answer.Mapping.{Mapping}
 use Rattle.audit_rules.specs.declared.calls.FragmentAnswer.the-variants as fragments
 use Rattle.audit_rules.specs.declared.settings.Settings.{Settings}
-use Rattle.audit_rules.specs.Observing.{sightRoom, sightRow}
+use Rattle.audit_rules.specs.Observing.{observedRoom, observedRow}
 use Rattle.audit_rules.specs.Calls.{mappingRow}
-use Rattle.sighting.specs.Sights.{sight, ReadObserved}
+use Rattle.sighting.specs.Sights.{asObserved, ReadObserved}
 use Rattle.observing.specs.Reads.{SecondObserved}
 
 module _ (s : Settings) (ss : List (List ℕ)) (way : Way) (ranked read : List ℕ) (searched : Bool) (from width : ℕ) (at : from ≡ width) (r : MapAnswer) (b b′ : List ℕ) (o : ReadObserved s ss way ranked read searched from width r b b′) (first : Mapping) where
@@ -25,10 +25,10 @@ module _ (s : Settings) (ss : List (List ℕ)) (way : Way) (ranked read : List �
   here = rw at at o
 
   abbrev room : ℕ
-  room = sightRoom s ss (entryCount (window b width width)) (sight searched read)
+  room = observedRoom s ss (entryCount (window b width width)) (asObserved searched read)
 
   abbrev its-row : Row
-  its-row = sightRow s ss way (sight searched read)
+  its-row = observedRow s ss way (asObserved searched read)
 
   pub second-refused : (n : ℕ) → r ≡ answers.Refused n → SecondObserved s ss way ranked read searched width first (fragments.Refused n) b b′
   second-refused n e =

@@ -12,27 +12,27 @@ use Rattle.answers.specs.declared.answer.Mapping.{Mapping}
 use Rattle.search.specs.Answered.{searchEntries}
 use Rattle.audit_rules.specs.declared.calls.FragmentAnswer.{FragmentAnswer}
 use Rattle.audit_rules.specs.declared.settings.Settings.{Settings}
-use Rattle.audit_rules.specs.Observing.{Sight, sightRoom, sightEntries, sightRow}
+use Rattle.audit_rules.specs.Observing.{Observed, observedRoom, observedEntries, observedRow}
 use Rattle.audit_rules.specs.Fragment.{firstRefusal, shareOf, inParts, entriesLeft}
 use Rattle.audit_rules.specs.Calls.{mappingRow, fragmentOutcome}
 use Rattle.checking.specs.Checks.{byMode}
-use Rattle.sighting.specs.Sights.{sight}
+use Rattle.sighting.specs.Sights.{asObserved}
 
 -- the second read of a pair observed into the part behind that of the first, whose answer is known
 pub record SecondObserved (s : Settings) (ss : List (List ℕ)) (way : Way) (ranked : List ℕ) (read : List ℕ) (searched : Bool) (width : ℕ) (first : Mapping) (r : FragmentAnswer) (buffer buffer′ : List ℕ) : Type 0 where
   pub answer :
-      fragmentOutcome r ≡ outcome (sightRoom s ss (entryCount (window buffer width width)) (sight searched read)) (mappingRow first ∷ sightRow s ss way (sight searched read) ∷ [])
+      fragmentOutcome r ≡ outcome (observedRoom s ss (entryCount (window buffer width width)) (asObserved searched read)) (mappingRow first ∷ observedRow s ss way (asObserved searched read) ∷ [])
   pub entries : buffer′ ≡ placed width (cond searched (searchEntries ss ranked read (s .limit) (window buffer width width)) (window buffer width width)) buffer
 
 -- the reads of a fragment observed, each into its part of the entries: 10, or a row for each and its groups
-abbrev pub sights : Settings → Bool → List ℕ → Bool → List ℕ → List Sight
-sights s searched first searched′ second = byMode (s .mode) (sight searched first) (sight searched′ second)
+abbrev pub observedReads : Settings → Bool → List ℕ → Bool → List ℕ → List Observed
+observedReads s searched first searched′ second = byMode (s .mode) (asObserved searched first) (asObserved searched′ second)
 
-module _ (s : Settings) (ss : List (List ℕ)) (way : Way) (ranked : List ℕ) (reads : List Sight) where
+module _ (s : Settings) (ss : List (List ℕ)) (way : Way) (ranked : List ℕ) (reads : List Observed) where
   abbrev pub roomsRefusal : ℕ → ℕ
-  roomsRefusal entries = firstRefusal (sightRoom s ss (shareOf (s .mode) entries)) reads
+  roomsRefusal entries = firstRefusal (observedRoom s ss (shareOf (s .mode) entries)) reads
 
   pub record ReadsObserved (r : FragmentAnswer) (buffer buffer′ : List ℕ) : Type 0 where
-    pub answer : fragmentOutcome r ≡ outcome (roomsRefusal (entryCount buffer)) (map (sightRow s ss way) reads)
+    pub answer : fragmentOutcome r ≡ outcome (roomsRefusal (entryCount buffer)) (map (observedRow s ss way) reads)
     pub entries :
-        buffer′ ≡ entriesLeft (roomsRefusal (entryCount buffer)) (inParts (4 * shareOf (s .mode) (entryCount buffer)) 0 (map (sightEntries s ss ranked) reads) (cleared buffer)) buffer
+        buffer′ ≡ entriesLeft (roomsRefusal (entryCount buffer)) (inParts (4 * shareOf (s .mode) (entryCount buffer)) 0 (map (observedEntries s ss ranked) reads) (cleared buffer)) buffer

@@ -6,7 +6,7 @@ ghost use Rattle.promises.specs.Slice.{old, new};
 ghost use Rattle.index.specs.Index.{lentSequences};
 ghost use Rattle.audit_rules.specs.Fragment.{shareOf};
 ghost use Rattle.sighting.specs.Sights.{wayIf, Observable, Sighted};
-ghost use Rattle.observing.specs.Reads.{sights, SecondObserved, ReadsObserved};
+ghost use Rattle.observing.specs.Reads.{observedReads, SecondObserved, ReadsObserved};
 use answers::answer::MapAnswer;
 use answers::answer::Mapping;
 use audit_rules::calls::FragmentAnswer;
@@ -88,7 +88,7 @@ pub fn observe_reads(
 ) -> FragmentAnswer
     requires { ⌜ Observable indexed q (now bases) (now ends) (now ranked) (now keys) (now ranks) (now positions) ⌝ }
     requires { ⌜ Sighted «first_searched» (now first) × Sighted «second_searched» (now second) ⌝ }
-    ensures { λ r. ⌜ ReadsObserved settings (lentSequences bases ends ranked) (wayIf indexed q) (old ranked) (sights settings «first_searched» (old first) «second_searched» (old second)) r (old entries) (new entries) ⌝ }
+    ensures { λ r. ⌜ ReadsObserved settings (lentSequences bases ends ranked) (wayIf indexed q) (old ranked) (observedReads settings «first_searched» (old first) «second_searched» (old second)) r (old entries) (new entries) ⌝ }
 {
     let mode = settings.mode;
     clear_entries(entries);

@@ -35,19 +35,19 @@ use Rattle.audit_rules.specs.declared.settings.MateRole.{MateRole}
 use Rattle.audit_rules.specs.declared.settings.MateRole.the-variants as roles
 use Rattle.audit_rules.specs.Settings.{roleNumber}
 use Rattle.audit_rules.specs.declared.settings.Settings.{Settings}
-use Rattle.audit_rules.specs.Observing.{Sight, sightRoom, sightEntries, sightRow}
+use Rattle.audit_rules.specs.Observing.{Observed, observedRoom, observedEntries, observedRow, observedBooked}
 use Rattle.audit_rules.specs.Fragment.{firstRefusal, shareOf, inParts, entriesLeft}
 use Rattle.audit_rules.specs.Calls.{mappingRow, fragmentOutcome}
 use Rattle.audit_rules.proofs.Booked.{few-roles}
 use Rattle.audit_rules.proofs.Parts.{Short, InParts, length-parts, parts-placed}
 use Rattle.checking.specs.Checks.{byMode}
 use Rattle.checking.specs.declared.SearchedReads.{SearchedReads}
-use Rattle.sighting.specs.Sights.{wayIf, sight}
-use Rattle.observing.specs.Reads.{sights, roomsRefusal, ReadsObserved}
+use Rattle.sighting.specs.Sights.{wayIf, asObserved}
+use Rattle.observing.specs.Reads.{observedReads, roomsRefusal, ReadsObserved}
 use Rattle.observing.proofs.Filled.{Within, within-placed, within-cleared, within-zeros}
 use Rattle.tallies.specs.Answers.{tallyOf, answerPostings, AnswerPostable, AnswerPosted}
 use Rattle.tallies.proofs.Posted.{AllPost, posted-all, books-countable}
-use Rattle.ranked_reads.specs.Observe.{sightBooked, observedRefusal, RankedLent, RankedObserved}
+use Rattle.ranked_reads.specs.Observe.{observedRefusal, RankedLent, RankedObserved}
 use Rattle.ranked_reads.proofs.Seeing.{sight-short, sight-posts, sight-postable}
 
 abbrev isRefused : FragmentAnswer → Bool
@@ -73,7 +73,7 @@ within-parts b width from (l ∷ ls) c w short h =
     mul-suc′ : (x n : ℕ) → x * suc n ≡ x + x * n
     mul-suc′ x n = omega (arith, mul-suc x n)
 
-module _ (s : Settings) (ss : List (List ℕ)) (way : Way) (ranked : List ℕ) (first second : ℕ) (one two : Sight) (buffer entries : List ℕ)
+module _ (s : Settings) (ss : List (List ℕ)) (way : Way) (ranked : List ℕ) (first second : ℕ) (one two : Observed) (buffer entries : List ℕ)
     (n : ℕ) (lent : Ranked n ranked) (many : length ranked ≡ length ss) (limit : limitRight (s .limit) ≡ true) (roles : (first < 3) × (second < 3)) where
   abbrev P : ℕ
   P = entryCount buffer
@@ -83,15 +83,15 @@ module _ (s : Settings) (ss : List (List ℕ)) (way : Way) (ranked : List ℕ) (
 
   -- ---- a single read
 
-  module _ (m : Mapping) (told : mappingRow m ≡ sightRow s ss way one) (room : sightRoom s ss P one ≡ 0) (written : entries ≡ inParts (4 * P) 0 (sightEntries s ss ranked one ∷ []) (cleared buffer)) where
-    single-part : window entries 0 (4 * P) ≡ placed 0 (sightEntries s ss ranked one) (window (cleared buffer) 0 (4 * P))
-    single-part = ap (λ l. window l 0 (4 * P)) written ∙ parts-placed (4 * P) 0 (sightEntries s ss ranked one ∷ []) (cleared buffer) (sight-short s ss one ranked P room, tt) (omega (arith, room-for)) .0
+  module _ (m : Mapping) (told : mappingRow m ≡ observedRow s ss way one) (room : observedRoom s ss P one ≡ 0) (written : entries ≡ inParts (4 * P) 0 (observedEntries s ss ranked one ∷ []) (cleared buffer)) where
+    single-part : window entries 0 (4 * P) ≡ placed 0 (observedEntries s ss ranked one) (window (cleared buffer) 0 (4 * P))
+    single-part = ap (λ l. window l 0 (4 * P)) written ∙ parts-placed (4 * P) 0 (observedEntries s ss ranked one ∷ []) (cleared buffer) (sight-short s ss one ranked P room, tt) (omega (arith, room-for)) .0
 
-    single-posts : AllPost ranked (record { tally = tallyOf first m; entries = entries } ∷ []) (sightBooked s ss way first one ∷ [])
+    single-posts : AllPost ranked (record { tally = tallyOf first m; entries = entries } ∷ []) (observedBooked s ss first one ∷ [])
     single-posts = (sight-posts s ss way ranked one m told P 0 room entries _ single-part n lent many limit first, tt)
 
     single-within : Within buffer entries
-    single-within = rw written (within-parts buffer (4 * P) 0 (sightEntries s ss ranked one ∷ []) (cleared buffer) (within-zeros buffer) (sight-short s ss one ranked P room, tt) (omega arith))
+    single-within = rw written (within-parts buffer (4 * P) 0 (observedEntries s ss ranked one ∷ []) (cleared buffer) (within-zeros buffer) (sight-short s ss one ranked P room, tt) (omega arith))
 
     single-lent : (k : Counters) → n ≡ length (k .placements) → CountersLent (length (k .placements)) k → FragmentPostable (tallyOf first m) (tallyOf first m) false (4 * P) entries k
     single-lent k e c =
@@ -103,18 +103,18 @@ module _ (s : Settings) (ss : List (List ℕ)) (way : Way) (ranked : List ℕ) (
         }
       where
         length-written : 4 * P ≤ length entries
-        length-written = omega (arith, room-for, ap length written, length-parts (4 * P) 0 (sightEntries s ss ranked one ∷ []) (cleared buffer) (sight-short s ss one ranked P room, tt) (omega (arith, room-for)))
+        length-written = omega (arith, room-for, ap length written, length-parts (4 * P) 0 (observedEntries s ss ranked one ∷ []) (cleared buffer) (sight-short s ss one ranked P room, tt) (omega (arith, room-for)))
 
   -- ---- a pair
 
-  module _ (m : Mates) (told : mappingRow (m .first) ≡ sightRow s ss way one) (also : mappingRow (m .second) ≡ sightRow s ss way two)
-      (room : sightRoom s ss (P / 2) one ≡ 0) (more : sightRoom s ss (P / 2) two ≡ 0)
-      (written : entries ≡ inParts (4 * (P / 2)) 0 (sightEntries s ss ranked one ∷ sightEntries s ss ranked two ∷ []) (cleared buffer)) where
+  module _ (m : Mates) (told : mappingRow (m .first) ≡ observedRow s ss way one) (also : mappingRow (m .second) ≡ observedRow s ss way two)
+      (room : observedRoom s ss (P / 2) one ≡ 0) (more : observedRoom s ss (P / 2) two ≡ 0)
+      (written : entries ≡ inParts (4 * (P / 2)) 0 (observedEntries s ss ranked one ∷ observedEntries s ss ranked two ∷ []) (cleared buffer)) where
     abbrev width : ℕ
     width = 4 * (P / 2)
 
     abbrev lists : List (List ℕ)
-    lists = sightEntries s ss ranked one ∷ sightEntries s ss ranked two ∷ []
+    lists = observedEntries s ss ranked one ∷ observedEntries s ss ranked two ∷ []
 
     short : Short width lists
     short = (sight-short s ss one ranked (P / 2) room, (sight-short s ss two ranked (P / 2) more, tt))
@@ -131,10 +131,10 @@ module _ (s : Settings) (ss : List (List ℕ)) (way : Way) (ranked : List ℕ) (
     from : 0 + width ≡ width
     from = omega arith
 
-    second-part : window entries width width ≡ placed 0 (sightEntries s ss ranked two) (window (cleared buffer) width width)
+    second-part : window entries width width ≡ placed 0 (observedEntries s ss ranked two) (window (cleared buffer) width width)
     second-part = rw from at (parts .1 .0)
 
-    pair-posts : AllPost ranked (record { tally = tallyOf first (m .first); entries = entries } ∷ record { tally = tallyOf second (m .second); entries = drop width entries } ∷ []) (sightBooked s ss way first one ∷ sightBooked s ss way second two ∷ [])
+    pair-posts : AllPost ranked (record { tally = tallyOf first (m .first); entries = entries } ∷ record { tally = tallyOf second (m .second); entries = drop width entries } ∷ []) (observedBooked s ss first one ∷ observedBooked s ss second two ∷ [])
     pair-posts = (
       sight-posts s ss way ranked one (m .first) told (P / 2) 0 room entries _ (parts .0) n lent many limit first,
       (sight-posts s ss way ranked two (m .second) also (P / 2) width more entries _ second-part n lent many limit second, tt),
@@ -157,34 +157,34 @@ module _ (s : Settings) (ss : List (List ℕ)) (way : Way) (ranked : List ℕ) (
   -- what is told of the reads of an answer: their targets have counters, and what is posted of them is what is booked of them
   pub record AnswerTold (mode : AuditInputMode) (k : Counters) (a : FragmentAnswer) : Type 0 where
     pub postable : AnswerPostable a first second (4 * shareOf mode P) entries k
-    pub posts : ((n : ℕ) → a ≡ fragments.Refused n → ⊥) → AllPost ranked (answerPostings a first second (4 * shareOf mode P) entries) (byMode mode (sightBooked s ss way first one) (sightBooked s ss way second two))
+    pub posts : ((n : ℕ) → a ≡ fragments.Refused n → ⊥) → AllPost ranked (answerPostings a first second (4 * shareOf mode P) entries) (byMode mode (observedBooked s ss first one) (observedBooked s ss second two))
     pub within : ((n : ℕ) → a ≡ fragments.Refused n → ⊥) → Within buffer entries
 
   module _ (k : Counters) (e : n ≡ length (k .placements)) (c : CountersLent (length (k .placements)) k) where
     answer-told : (mode : AuditInputMode) (a : FragmentAnswer)
-        → fragmentOutcome a ≡ outcome (firstRefusal (sightRoom s ss (shareOf mode P)) (byMode mode one two)) (map (sightRow s ss way) (byMode mode one two))
-        → entries ≡ entriesLeft (firstRefusal (sightRoom s ss (shareOf mode P)) (byMode mode one two)) (inParts (4 * shareOf mode P) 0 (map (sightEntries s ss ranked) (byMode mode one two)) (cleared buffer)) buffer
+        → fragmentOutcome a ≡ outcome (firstRefusal (observedRoom s ss (shareOf mode P)) (byMode mode one two)) (map (observedRow s ss way) (byMode mode one two))
+        → entries ≡ entriesLeft (firstRefusal (observedRoom s ss (shareOf mode P)) (byMode mode one two)) (inParts (4 * shareOf mode P) 0 (map (observedEntries s ss ranked) (byMode mode one two)) (cleared buffer)) buffer
         → AnswerTold mode k a
     answer-told mode (fragments.Refused m) A E = record { postable = tt; posts = λ ne. absurd (ne m refl); within = λ ne. absurd (ne m refl) }
     answer-told modes.SingleEnd (fragments.Single m) A E =
-        let o = outcome-accepted (sightRoom s ss P one orElse 0) (sightRow s ss way one ∷ []) (mappingRow m ∷ []) (sym A) in
-        let room = none-first (sightRoom s ss P one) 0 (o .0) in
+        let o = outcome-accepted (observedRoom s ss P one orElse 0) (observedRow s ss way one ∷ []) (mappingRow m ∷ []) (sym A) in
+        let room = none-first (observedRoom s ss P one) 0 (o .0) in
         let told = sym (head-eq-of-cons-eq (o .1)) in
-        let written = E ∙ ap (λ z. entriesLeft z (inParts (4 * P) 0 (sightEntries s ss ranked one ∷ []) (cleared buffer)) buffer) (o .0) in
+        let written = E ∙ ap (λ z. entriesLeft z (inParts (4 * P) 0 (observedEntries s ss ranked one ∷ []) (cleared buffer)) buffer) (o .0) in
         record { postable = single-lent m told room written k e c; posts = λ ne. single-posts m told room written; within = λ ne. single-within m told room written }
     answer-told modes.SingleEnd (fragments.Paired m) A E =
-        let o = outcome-accepted (sightRoom s ss P one orElse 0) (sightRow s ss way one ∷ []) (mappingRow (m .first) ∷ mappingRow (m .second) ∷ []) (sym A) in
+        let o = outcome-accepted (observedRoom s ss P one orElse 0) (observedRow s ss way one ∷ []) (mappingRow (m .first) ∷ mappingRow (m .second) ∷ []) (sym A) in
         absurd (omega (arith, ap length (o .1)))
     answer-told modes.PairedEnd (fragments.Single m) A E =
-        let o = outcome-accepted (sightRoom s ss (P / 2) one orElse sightRoom s ss (P / 2) two orElse 0) (sightRow s ss way one ∷ sightRow s ss way two ∷ []) (mappingRow m ∷ []) (sym A) in
+        let o = outcome-accepted (observedRoom s ss (P / 2) one orElse observedRoom s ss (P / 2) two orElse 0) (observedRow s ss way one ∷ observedRow s ss way two ∷ []) (mappingRow m ∷ []) (sym A) in
         absurd (omega (arith, ap length (o .1)))
     answer-told modes.PairedEnd (fragments.Paired m) A E =
-        let o = outcome-accepted (sightRoom s ss (P / 2) one orElse sightRoom s ss (P / 2) two orElse 0) (sightRow s ss way one ∷ sightRow s ss way two ∷ []) (mappingRow (m .first) ∷ mappingRow (m .second) ∷ []) (sym A) in
-        let room = none-first (sightRoom s ss (P / 2) one) _ (o .0) in
-        let more = none-first (sightRoom s ss (P / 2) two) 0 (none-second (sightRoom s ss (P / 2) one) _ (o .0)) in
+        let o = outcome-accepted (observedRoom s ss (P / 2) one orElse observedRoom s ss (P / 2) two orElse 0) (observedRow s ss way one ∷ observedRow s ss way two ∷ []) (mappingRow (m .first) ∷ mappingRow (m .second) ∷ []) (sym A) in
+        let room = none-first (observedRoom s ss (P / 2) one) _ (o .0) in
+        let more = none-first (observedRoom s ss (P / 2) two) 0 (none-second (observedRoom s ss (P / 2) one) _ (o .0)) in
         let told = sym (head-eq-of-cons-eq (o .1)) in
         let also = sym (head-eq-of-cons-eq (tail-eq-of-cons-eq (o .1))) in
-        let written = E ∙ ap (λ z. entriesLeft z (inParts (4 * (P / 2)) 0 (sightEntries s ss ranked one ∷ sightEntries s ss ranked two ∷ []) (cleared buffer)) buffer) (o .0) in
+        let written = E ∙ ap (λ z. entriesLeft z (inParts (4 * (P / 2)) 0 (observedEntries s ss ranked one ∷ observedEntries s ss ranked two ∷ []) (cleared buffer)) buffer) (o .0) in
         record { postable = pair-lent m told also room more written k e c; posts = λ ne. pair-posts m told also room more written; within = λ ne. pair-within m told also room more written }
 
     module _ (r : FragmentAnswer) (seen : ReadsObserved s ss way ranked (byMode (s .mode) one two) r buffer entries) where
@@ -199,13 +199,13 @@ module _ (s : Settings) (ss : List (List ℕ)) (way : Way) (ranked : List ℕ) (
 
       -- 17 is the test of what is posted
       fits-countable : (l : Ledger) → ((m : ℕ) → r ≡ fragments.Refused m → ⊥)
-          → countable (bookedAll ranked (byMode (s .mode) (sightBooked s ss way first one) (sightBooked s ss way second two)) (books l)) ≡ booksSmall (postedAll (answerPostings r first second (4 * shareOf (s .mode) P) entries) (books l))
+          → countable (bookedAll ranked (byMode (s .mode) (observedBooked s ss first one) (observedBooked s ss second two)) (books l)) ≡ booksSmall (postedAll (answerPostings r first second (4 * shareOf (s .mode) P) entries) (books l))
       fits-countable l ne =
           books-countable _
-          ∙ ap booksSmall (sym (posted-all ranked (answerPostings r first second (4 * shareOf (s .mode) P) entries) (byMode (s .mode) (sightBooked s ss way first one) (sightBooked s ss way second two)) (told .posts ne) (books l)))
+          ∙ ap booksSmall (sym (posted-all ranked (answerPostings r first second (4 * shareOf (s .mode) P) entries) (byMode (s .mode) (observedBooked s ss first one) (observedBooked s ss second two)) (told .posts ne) (books l)))
 
       abbrev written : List ℕ
-      written = inParts (4 * shareOf (s .mode) P) 0 (map (sightEntries s ss ranked) (byMode (s .mode) one two)) (cleared buffer)
+      written = inParts (4 * shareOf (s .mode) P) 0 (map (observedEntries s ss ranked) (byMode (s .mode) one two)) (cleared buffer)
 
       -- an accepted answer had room
       pub accepted-room : ((m : ℕ) → r ≡ fragments.Refused m → ⊥) → rooms ≡ 0
@@ -267,7 +267,7 @@ module _ (s : Settings) (ss : List (List ℕ)) (way : Way) (ranked : List ℕ) (
 
 module _ (indexed : Bool) (q : ℕ) (bases ends ranked ks rs os first second : List ℕ) (searched : SearchedReads) (s : Settings) (k : Counters)
     (lent : RankedLent indexed q bases ends ranked ks rs os first second searched s k) (one two : MateRole) (buffer entries : List ℕ) (r : FragmentAnswer)
-    (seen : ReadsObserved s (rankedSequences bases ends ranked) (wayIf indexed q) ranked (sights s (searched .first) first (searched .second) second) r buffer entries)
+    (seen : ReadsObserved s (rankedSequences bases ends ranked) (wayIf indexed q) ranked (observedReads s (searched .first) first (searched .second) second) r buffer entries)
     (w : ℕ) (share : w ≡ shareOf (s .mode) (entryCount buffer)) where
   abbrev many : length ranked ≡ length (rankedSequences bases ends ranked)
   many = sym (length-map ranked (λ p. getD (cut ends bases) p []))
@@ -278,19 +278,19 @@ module _ (indexed : Bool) (q : ℕ) (bases ends ranked ks rs os first second : L
   pub ranked-postable : AnswerPostable r (roleNumber one) (roleNumber two) (4 * w) entries k
   ranked-postable =
       rw share
-      (told s (rankedSequences bases ends ranked) (wayIf indexed q) ranked (roleNumber one) (roleNumber two) (sight (searched .first) first) (sight (searched .second) second) buffer entries
+      (told s (rankedSequences bases ends ranked) (wayIf indexed q) ranked (roleNumber one) (roleNumber two) (asObserved (searched .first) first) (asObserved (searched .second) second) buffer entries
       (length (k .placements)) (lent .places) many (lent .limit) both k refl (lent .counters) r seen .postable)
 
   module _ (l : Ledger) (r′ : Posted) (posted : AnswerPosted r (roleNumber one) (roleNumber two) (4 * w) entries (record { ledger = l; counters = k }) r′) where
     pub ranked-done : r′ .fits ≡ true
-        → RankedObserved s (rankedSequences bases ends ranked) (wayIf indexed q) ranked (roleNumber one) (roleNumber two) (sight (searched .first) first) (sight (searched .second) second) l k r buffer entries
+        → RankedObserved s (rankedSequences bases ends ranked) (wayIf indexed q) ranked (roleNumber one) (roleNumber two) (asObserved (searched .first) first) (asObserved (searched .second) second) l k r buffer entries
     ranked-done =
-        observed-done s (rankedSequences bases ends ranked) (wayIf indexed q) ranked (roleNumber one) (roleNumber two) (sight (searched .first) first) (sight (searched .second) second) buffer entries
+        observed-done s (rankedSequences bases ends ranked) (wayIf indexed q) ranked (roleNumber one) (roleNumber two) (asObserved (searched .first) first) (asObserved (searched .second) second) buffer entries
         (length (k .placements)) (lent .places) many (lent .limit) both k refl (lent .counters) r seen l r′ (rw share at posted)
 
     pub ranked-full : r′ .fits ≡ false → (b : List ℕ) → b ≡ cleared entries → (n : ℕ) → n ≡ 17
-        → RankedObserved s (rankedSequences bases ends ranked) (wayIf indexed q) ranked (roleNumber one) (roleNumber two) (sight (searched .first) first) (sight (searched .second) second) l k (fragments.Refused n) buffer b
+        → RankedObserved s (rankedSequences bases ends ranked) (wayIf indexed q) ranked (roleNumber one) (roleNumber two) (asObserved (searched .first) first) (asObserved (searched .second) second) l k (fragments.Refused n) buffer b
     ranked-full f b e n g =
         rw g
-        (observed-full s (rankedSequences bases ends ranked) (wayIf indexed q) ranked (roleNumber one) (roleNumber two) (sight (searched .first) first) (sight (searched .second) second) buffer entries
+        (observed-full s (rankedSequences bases ends ranked) (wayIf indexed q) ranked (roleNumber one) (roleNumber two) (asObserved (searched .first) first) (asObserved (searched .second) second) buffer entries
         (length (k .placements)) (lent .places) many (lent .limit) both k refl (lent .counters) r seen l r′ (rw share at posted) f b e)

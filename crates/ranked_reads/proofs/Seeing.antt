@@ -17,8 +17,8 @@ use Rattle.seeds.specs.Seeds.{placed}
 use Rattle.places.specs.Place.{Place, before, groups}
 use Rattle.places.proofs.Placing.{groups-∈, groups-ascending}
 use Rattle.scan.proofs.Going.{length-entries}
-use Rattle.index_search.specs.Work.{Way, workBy}
-use Rattle.answers.specs.Answer.{Row, row, listed, mappedRow, stateNumber}
+use Rattle.index_search.specs.Work.{Way}
+use Rattle.answers.specs.Answer.{Row, listed, stateNumber}
 use Rattle.answers.specs.Bounds.{limitRight, maxLimit}
 use Rattle.answers.specs.declared.answer.Mapping.{Mapping}
 use Rattle.ledger.specs.Booking.{targetsOf}
@@ -27,37 +27,25 @@ use Rattle.ledger.proofs.Targets.{targets-∈}
 use Rattle.raising.specs.Targets.{targetsIn, maxGroups}
 use Rattle.raising.proofs.Choosing.{targets-at}
 use Rattle.booking.specs.Books.{Postable}
-use Rattle.search.proofs.Listed.{none-listed, row-groups, listed-part}
+use Rattle.search.proofs.Listed.{none-listed, listed-part}
 use Rattle.search.proofs.Parts.{listed-room}
 use Rattle.audit_rules.specs.declared.settings.Settings.{Settings}
-use Rattle.audit_rules.specs.Observing.{Sight, noWork, sightGroups, sightRoom, sightListed, sightEntries, sightRow}
+use Rattle.audit_rules.specs.Observing.{Observed, observedGroups, observedRoom, observedListed, observedEntries, observedRow, observedBooked}
 use Rattle.audit_rules.specs.Calls.{mappingRow}
 use Rattle.tallies.specs.Answers.{tallyOf}
 use Rattle.tallies.proofs.Runs.{groups-grouped}
 use Rattle.tallies.proofs.Posted.{Posts, part-targets}
-use Rattle.ranked_reads.specs.Observe.{sightBooked}
 
-module _ (s : Settings) (ss : List (List ℕ)) (x : Sight) where
-  -- as many groups are listed as its row says
-  pub sight-listed : (way : Way) → sightRow s ss way x .groups ≡ length (sightListed s ss x)
-  sight-listed way = go (x .searched)
-    where
-      gs : List Place
-      gs = groups ss (x .bases)
-
-      go : (b : Bool) → cond b (mappedRow (s .limit) gs (workBy way ss (x .bases) (s .limit))) (row (cond (s .remap) 1 0) 0 noWork) .groups ≡ length (listed (s .limit) (cond b gs []))
-      go true = row-groups (s .limit) gs (workBy way ss (x .bases) (s .limit))
-      go false = rw (none-listed (s .limit))
-
+module _ (s : Settings) (ss : List (List ℕ)) (x : Observed) where
   -- no more than the limit
-  few-listed : length (sightListed s ss x) ≤ s .limit
-  few-listed = go (sightGroups s ss x)
+  few-listed : length (observedListed s ss x) ≤ s .limit
+  few-listed = go (observedGroups s ss x)
     where
       go : (gs : List Place) → length (listed (s .limit) gs) ≤ s .limit
       go gs = by-test (ltb (s .limit) (length gs)) (λ t. rw t (omega arith)) (λ t. rw t (omega (arith, ltb-false (s .limit) (length gs) t)))
 
   -- they ascend
-  listed-ascend : Ascending before (sightListed s ss x)
+  listed-ascend : Ascending before (observedListed s ss x)
   listed-ascend = go (x .searched) (groups ss (x .bases)) (groups-ascending ss (x .bases))
     where
       go : (b : Bool) (gs : List Place) → Ascending before gs → Ascending before (listed (s .limit) (cond b gs []))
@@ -65,26 +53,26 @@ module _ (s : Settings) (ss : List (List ℕ)) (x : Sight) where
       go false gs a = rw (none-listed (s .limit)) tt
 
   -- its entries fit its share
-  pub sight-short : (ranked : List ℕ) (share : ℕ) → sightRoom s ss share x ≡ 0 → length (sightEntries s ss ranked x) ≤ 4 * share
+  pub sight-short : (ranked : List ℕ) (share : ℕ) → observedRoom s ss share x ≡ 0 → length (observedEntries s ss ranked x) ≤ 4 * share
   sight-short ranked share room =
-      omega (arith, length-entries ranked (length (x .bases)) (sightListed s ss x), listed-room share (s .limit) (sightGroups s ss x) room)
+      omega (arith, length-entries ranked (length (x .bases)) (observedListed s ss x), listed-room share (s .limit) (observedGroups s ss x) room)
 
 -- ---- a read observed into its part of the entries
 
 limit-most : (limit : ℕ) → limitRight limit ≡ true → limit ≤ maxGroups
 limit-most limit t = leb-true limit maxLimit (and-true (leb 1 limit) (leb limit maxLimit) t .1)
 
-module _ (s : Settings) (ss : List (List ℕ)) (way : Way) (ranked : List ℕ) (x : Sight) (m : Mapping) (told : mappingRow m ≡ sightRow s ss way x)
-    (share from : ℕ) (room : sightRoom s ss share x ≡ 0) (entries zeros : List ℕ) (part : window entries from (4 * share) ≡ placed 0 (sightEntries s ss ranked x) zeros)
+module _ (s : Settings) (ss : List (List ℕ)) (way : Way) (ranked : List ℕ) (x : Observed) (m : Mapping) (told : mappingRow m ≡ observedRow s ss way x)
+    (share from : ℕ) (room : observedRoom s ss share x ≡ 0) (entries zeros : List ℕ) (part : window entries from (4 * share) ≡ placed 0 (observedEntries s ss ranked x) zeros)
     (n : ℕ) (lent : Ranked n ranked) (many : length ranked ≡ length ss) (limit : limitRight (s .limit) ≡ true) (role : ℕ) where
   abbrev gs : List Place
-  gs = sightListed s ss x
+  gs = observedListed s ss x
 
   groups-are : m .groups ≡ length gs
-  groups-are = ap (λ (r : Row). r .groups) told ∙ sight-listed s ss x way
+  groups-are = ap (λ (r : Row). r .groups) told
 
   fits : 4 * length gs ≤ 4 * share
-  fits = omega (arith, listed-room share (s .limit) (sightGroups s ss x) room)
+  fits = omega (arith, listed-room share (s .limit) (observedGroups s ss x) room)
 
   targets-are : targetsIn (m .groups) (drop from entries) ≡ targetsOf ranked gs
   targets-are = ap (λ k. targetsIn k (drop from entries)) groups-are ∙ part-targets ranked (length (x .bases)) (4 * share) from gs entries zeros part fits
@@ -93,7 +81,7 @@ module _ (s : Settings) (ss : List (List ℕ)) (way : Way) (ranked : List ℕ) (
   ranked-inside p i = omega (arith, many, groups-∈ ss (x .bases) p (listed-part (s .limit) p (x .searched) (groups ss (x .bases)) i) .0 .ranked)
 
   -- what is posted of it is what is booked of it
-  pub sight-posts : Posts ranked (record { tally = tallyOf role m; entries = drop from entries }) (sightBooked s ss way role x)
+  pub sight-posts : Posts ranked (record { tally = tallyOf role m; entries = drop from entries }) (observedBooked s ss role x)
   sight-posts =
       record {
         role = refl;

@@ -8,13 +8,13 @@ use Rattle.promises.specs.Refusal.{unless, _orElse_, outcome}
 use Rattle.scan.specs.Entries.{entryCount, cleared}
 use Rattle.index_search.specs.Work.{Way}
 use Rattle.answers.specs.Bounds.{limitRight}
-use Rattle.ledger.specs.Booking.{Booked, Counters, bookedAll, countable}
+use Rattle.ledger.specs.Booking.{Counters, bookedAll, countable}
 use Rattle.ledger.specs.Counting.{Ranked}
 use Rattle.ledger.specs.declared.Ledger.{Ledger}
 use Rattle.booking.specs.Books.{CountersLent}
 use Rattle.audit_rules.specs.declared.calls.FragmentAnswer.{FragmentAnswer}
 use Rattle.audit_rules.specs.declared.settings.Settings.{Settings}
-use Rattle.audit_rules.specs.Observing.{Sight, sightListed, sightEntries, sightRow}
+use Rattle.audit_rules.specs.Observing.{Observed, observedEntries, observedRow, observedBooked}
 use Rattle.audit_rules.specs.Fragment.{shareOf, inParts, entriesLeft}
 use Rattle.audit_rules.specs.Calls.{fragmentOutcome}
 use Rattle.checking.specs.declared.SearchedReads.{SearchedReads}
@@ -31,19 +31,15 @@ pub record RankedLent (indexed : Bool) (q : ℕ) (bases ends ranked ks rs os fir
   pub counters : CountersLent (length (k .placements)) k
   pub places : Ranked (length (k .placements)) ranked
 
--- what is booked of a read, with the number of its role
-abbrev pub sightBooked : Settings → List (List ℕ) → Way → ℕ → Sight → Booked
-sightBooked s ss way role r = record { role = role; state = sightRow s ss way r .state; groups = sightListed s ss r }
-
-module _ (s : Settings) (ss : List (List ℕ)) (way : Way) (ranked : List ℕ) (first second : ℕ) (one two : Sight) (l : Ledger) (k : Counters) where
+module _ (s : Settings) (ss : List (List ℕ)) (way : Way) (ranked : List ℕ) (first second : ℕ) (one two : Observed) (l : Ledger) (k : Counters) where
   -- 10 of each read, then 17
   abbrev pub observedRefusal : ℕ → ℕ
   observedRefusal entries =
       roomsRefusal s ss way ranked (byMode (s .mode) one two) entries
-      orElse unless (countable (bookedAll ranked (byMode (s .mode) (sightBooked s ss way first one) (sightBooked s ss way second two)) (record { ledger = l; counters = k }))) 17
+      orElse unless (countable (bookedAll ranked (byMode (s .mode) (observedBooked s ss first one) (observedBooked s ss second two)) (record { ledger = l; counters = k }))) 17
 
   pub record RankedObserved (r : FragmentAnswer) (buffer buffer′ : List ℕ) : Type 0 where
-    pub answer : fragmentOutcome r ≡ outcome (observedRefusal (entryCount buffer)) (map (sightRow s ss way) (byMode (s .mode) one two))
+    pub answer : fragmentOutcome r ≡ outcome (observedRefusal (entryCount buffer)) (map (observedRow s ss way) (byMode (s .mode) one two))
     pub entries :
         buffer′ ≡ entriesLeft (observedRefusal (entryCount buffer))
-        (inParts (4 * shareOf (s .mode) (entryCount buffer)) 0 (map (sightEntries s ss ranked) (byMode (s .mode) one two)) (cleared buffer)) buffer
+        (inParts (4 * shareOf (s .mode) (entryCount buffer)) 0 (map (observedEntries s ss ranked) (byMode (s .mode) one two)) (cleared buffer)) buffer

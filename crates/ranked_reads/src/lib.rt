@@ -3,7 +3,7 @@ ghost use Rattle.promises.specs.Slice.{old, new};
 ghost use Rattle.index.specs.Index.{lentSequences};
 ghost use Rattle.ledger.specs.Booking.{countersOf, lentCounters};
 ghost use Rattle.audit_rules.specs.Settings.{roleNumber};
-ghost use Rattle.sighting.specs.Sights.{wayIf, sight};
+ghost use Rattle.sighting.specs.Sights.{wayIf, asObserved};
 ghost use Rattle.ranked_reads.specs.Observe.{RankedLent, RankedObserved};
 use audit_rules::calls::FragmentAnswer;
 use audit_rules::settings::MateRole;
@@ -40,7 +40,7 @@ pub fn observe_ranked(
     requires { ⌜ RankedLent indexed q (now bases) (now ends) (now ranked) (now keys) (now ranks) (now positions)
         (now first) (now second) searched settings (countersOf (now placements) (now singles) (now multi)) ⌝ }
     ensures { λ r. ⌜ RankedObserved settings (lentSequences bases ends ranked) (wayIf indexed q) (old ranked)
-        (roleNumber «first_role») (roleNumber «second_role») (sight (searched .first) (old first)) (sight (searched .second) (old second))
+        (roleNumber «first_role») (roleNumber «second_role») (asObserved (searched .first) (old first)) (asObserved (searched .second) (old second))
         ledger (lentCounters placements singles multi) r (old entries) (new entries) ⌝ }
 {
     let mode = settings.mode;

@@ -66,10 +66,10 @@ module _ (c : Catalogue) (h : Held) (passes : Passes c h) where
   passes-alike h′ s p t m = rw (s, p, t, m) passes
 
   -- so they pass behind an accepted fragment
-  pub accepted-passes : (f : Fragment) → Passes c (fragmentAccepted auditSeed auditOffset c (lentOf c) h f)
+  pub accepted-passes : (f : Fragment) → Passes c (fragmentAccepted auditOffset c h f)
   accepted-passes f =
-      let l = booked-lengths (suppliedPlaces c) (fragmentBooked auditSeed auditOffset c (lentOf c) h f) (heldBooks h) in
-      passes-alike (fragmentAccepted auditSeed auditOffset c (lentOf c) h f) refl (l .placements) (l .singles) (l .multi)
+      let l = booked-lengths (suppliedPlaces c) (fragmentBooked auditOffset c h f) (heldBooks h) in
+      passes-alike (fragmentAccepted auditOffset c h f) refl (l .placements) (l .singles) (l .multi)
 
 -- ---- what a fragment is lent
 

@@ -81,7 +81,7 @@ cleared-whole n b e =
     ∙ append-nil (zeros (4 * n))
 
 module _ (c : Catalogue) (h : Held) (f : Fragment) where
-  written-anew : (n : ℕ) (b d : List ℕ) → length b ≡ 4 * n → length d ≡ 4 * n → fragmentWritten auditSeed auditOffset c (lentOf c) h f b ≡ fragmentWritten auditSeed auditOffset c (lentOf c) h f d
+  written-anew : (n : ℕ) (b d : List ℕ) → length b ≡ 4 * n → length d ≡ 4 * n → fragmentWritten auditOffset c h f b ≡ fragmentWritten auditOffset c h f d
   written-anew n b d e g = rw (cleared-whole n b e, cleared-whole n d g, count-of n b e, count-of n d g)
 
 -- ---- a fragment
@@ -107,16 +107,16 @@ module _ (c : Catalogue) (ranked ks rs os : List ℕ) (h : Held) (entries : List
   fragment-refuses n told =
       let w = outcome-number (fragmentRefusal auditSeed auditOffset c (lentOf c) h f (entryCount entries)) n _ (sym (audits .answer) ∙ ap fragmentOutcome told) in (
         fragment-refused c h bytes f (head .end) read n (sym refusal-is ∙ w .0) (w .1),
-        audits .held ∙ refused-holds (fragmentRefusal auditSeed auditOffset c (lentOf c) h f (entryCount entries)) (λ z. w .1 (sym (w .0) ∙ z)) (fragmentAccepted auditSeed auditOffset c (lentOf c) h f) h,
+        audits .held ∙ refused-holds (fragmentRefusal auditSeed auditOffset c (lentOf c) h f (entryCount entries)) (λ z. w .1 (sym (w .0) ∙ z)) (fragmentAccepted auditOffset c h f) h,
       )
 
   -- accepted, its lines are written and it is booked
   pub fragment-goes : (rows : List Row) → fragmentOutcome (a .answer) ≡ accepted rows → Goes (running c h) (3 ∷ bytes) lines (running c after) (drop (head .end) bytes) × Passes c after
   fragment-goes rows told =
       let w = outcome-accepted (fragmentRefusal auditSeed auditOffset c (lentOf c) h f (entryCount entries)) _ rows (sym (audits .answer) ∙ told) in
-      let booked : after ≡ fragmentAccepted auditSeed auditOffset c (lentOf c) h f = audits .held ∙ ap (λ n. ifPassed n (fragmentAccepted auditSeed auditOffset c (lentOf c) h f) h) (w .0) in
-      let left : entries′ ≡ fragmentWritten auditSeed auditOffset c (lentOf c) h f (replicate (4 * streamEntries) 0) =
-      audits .left ∙ ap (λ n. entriesLeft n (fragmentWritten auditSeed auditOffset c (lentOf c) h f entries) entries) (w .0) ∙ written-anew c h f streamEntries entries (replicate (4 * streamEntries) 0) (lent .whole) (length-replicate {A = ℕ} (4 * streamEntries) 0) in
+      let booked : after ≡ fragmentAccepted auditOffset c h f = audits .held ∙ ap (λ n. ifPassed n (fragmentAccepted auditOffset c h f) h) (w .0) in
+      let left : entries′ ≡ fragmentWritten auditOffset c h f (replicate (4 * streamEntries) 0) =
+      audits .left ∙ ap (λ n. entriesLeft n (fragmentWritten auditOffset c h f entries) entries) (w .0) ∙ written-anew c h f streamEntries entries (replicate (4 * streamEntries) 0) (lent .whole) (length-replicate {A = ℕ} (4 * streamEntries) 0) in
       let text : lines ≡ linesOf c h f =
       accepted-lines (names c) (head .ordinal) (4 * shareOf (h .state .settings .mode) streamEntries) _ _ _ entries′ (head .count) (a .answer) (told ∙ ap accepted (sym (w .1)))
       ∙ ap (fragmentLines (names c) (head .ordinal) (4 * shareOf (h .state .settings .mode) streamEntries) (f .reads) (fragmentRows auditSeed auditOffset c (lentOf c) h f)) left in

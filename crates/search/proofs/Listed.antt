@@ -9,16 +9,11 @@ use lib.Dec.{ltb}
 use Rattle.lists.specs.Member.{_∈_}
 use Rattle.lists.proofs.Cases.{by-test}
 use Rattle.places.specs.Place.{Place}
-use Rattle.index_search.specs.declared.work.MappingWork.{MappingWork}
-use Rattle.answers.specs.Answer.{listed, mappedRow}
+use Rattle.answers.specs.Answer.{listed}
 
 module _ (limit : ℕ) where
   pub none-listed : listed limit [] ≡ []
   none-listed = by-test (ltb limit 0) (λ t. rw t) (λ t. rw t)
-
-  -- the number of groups of a row is that of the listed ones
-  pub row-groups : (gs : List Place) (w : MappingWork) → mappedRow limit gs w .groups ≡ length (listed limit gs)
-  row-groups gs w = by-test (ltb limit (length gs)) (λ t. rw t) (λ t. rw t)
 
   -- a listed group is a group of the read, which is searched where b holds
   pub listed-part : (p : Place) (b : Bool) (gs : List Place) → p ∈ listed limit (cond b gs []) → p ∈ gs

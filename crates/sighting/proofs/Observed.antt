@@ -18,6 +18,7 @@ use Rattle.answers.specs.declared.answer.MapAnswer.{MapAnswer}
 use Rattle.answers.specs.declared.answer.MapAnswer.the-variants as answers
 use Rattle.answers.specs.declared.answer.Mapping.{Mapping}
 use Rattle.search.specs.Answered.{PartSearched}
+use Rattle.search.proofs.Listed.{none-listed}
 use Rattle.audit_rules.specs.declared.settings.Settings.{Settings}
 use Rattle.audit_rules.specs.Observing.{noWork}
 use Rattle.audit_rules.specs.Calls.{mappingRow}
@@ -37,7 +38,7 @@ module _ (indexed : Bool) (q : ℕ) (bases ends ranked ks rs os : List ℕ) (o :
 module _ (s : Settings) (ss : List (List ℕ)) (indexed : Bool) (q : ℕ) (ranked read : List ℕ) (searched : Bool) (from width : ℕ) (b : List ℕ) where
   -- a read that is not searched
   pub not-searched : from + width ≤ length b → searched ≡ false → (m : Mapping) → mappingRow m ≡ row (cond (s .remap) 1 0) 0 noWork → ReadObserved s ss (wayIf indexed q) ranked read searched from width (answers.Mapped m) b b
-  not-searched h f m e = record { answer = rw (f, le-ltb (entryCount (window b from width)) 0 (omega arith)) (ap accepted e); entries = rw f (sym (placed-self from width b h)) }
+  not-searched h f m e = record { answer = rw (f, none-listed (s .limit), le-ltb (entryCount (window b from width)) 0 (omega arith)) (ap accepted e); entries = rw f (sym (placed-self from width b h)) }
 
   -- a read that is searched
   pub part-observed : searched ≡ true → (i : Bool) → indexed ≡ i → (limit : ℕ) → limit ≡ s .limit → (r : MapAnswer) (b′ : List ℕ) → PartSearched (wayIf i q) ss ranked read limit from width r b b′ → ReadObserved s ss (wayIf indexed q) ranked read searched from width r b b′

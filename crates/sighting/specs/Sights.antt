@@ -17,7 +17,7 @@ use Rattle.answers.specs.Answer.{answerOf}
 use Rattle.answers.specs.declared.answer.MapAnswer.{MapAnswer}
 use Rattle.search.specs.Answered.{searchEntries}
 use Rattle.audit_rules.specs.declared.settings.Settings.{Settings}
-use Rattle.audit_rules.specs.Observing.{Sight, sightRoom, sightRow}
+use Rattle.audit_rules.specs.Observing.{Observed, observedRoom, observedRow}
 
 -- how a search is made
 abbrev pub wayIf : Bool → ℕ → Way
@@ -35,10 +35,10 @@ pub record Sighted (searched : Bool) (read : List ℕ) : Type 0 where
   pub letters-right : searched ≡ true → letters read ≡ true
   pub short : searched ≡ true → length read ≤ maxRead
 
-abbrev pub sight : Bool → List ℕ → Sight
-sight searched read = record { searched = searched; bases = read }
+abbrev pub asObserved : Bool → List ℕ → Observed
+asObserved searched read = record { searched = searched; bases = read }
 
 -- one read observed into `width` numbers of the entries from a place on; where it is not searched they stay
 pub record ReadObserved (s : Settings) (ss : List (List ℕ)) (way : Way) (ranked : List ℕ) (read : List ℕ) (searched : Bool) (from width : ℕ) (r : MapAnswer) (buffer buffer′ : List ℕ) : Type 0 where
-  pub answer : answerOf r ≡ outcome (sightRoom s ss (entryCount (window buffer from width)) (sight searched read)) (sightRow s ss way (sight searched read))
+  pub answer : answerOf r ≡ outcome (observedRoom s ss (entryCount (window buffer from width)) (asObserved searched read)) (observedRow s ss way (asObserved searched read))
   pub entries : buffer′ ≡ placed from (cond searched (searchEntries ss ranked read (s .limit) (window buffer from width)) (window buffer from width)) buffer

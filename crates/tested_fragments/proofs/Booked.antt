@@ -22,7 +22,7 @@ use Rattle.audit_rules.specs.declared.settings.AuditState.{AuditState}
 use Rattle.audit_rules.specs.declared.settings.LastOrdinal.the-variants as ordinals
 use Rattle.audit_rules.specs.declared.settings.Settings.{Settings}
 use Rattle.audit_rules.specs.Settings.{Held, heldBooks, roleNumber}
-use Rattle.audit_rules.specs.Observing.{MateRead, Sight, sightOf, sightRoom, sightEntries, sightRow, mateRow, mateEntries, mateBooked}
+use Rattle.audit_rules.specs.Observing.{MateRead, Observed, observe, observedRoom, observedEntries, observedRow, mateBooked, observedBooked}
 use Rattle.audit_rules.specs.Fragment.{Fragment, firstRefusal, shareOf, inParts, entriesLeft, testedBooks, testedRefusal, testedRows, testedAccepted}
 use Rattle.audit_rules.specs.Calls.{fragmentOutcome, fragmentReads, fragmentOf}
 use Rattle.audit_rules.proofs.Checking.{TestedChecked, tested-checked}
@@ -32,7 +32,6 @@ use Rattle.observing.specs.Reads.{roomsRefusal, ReadsObserved}
 use Rattle.observing.proofs.Fragment.{not-refused}
 use Rattle.tallies.specs.Answers.{answerPostings, answerBooked, AnswerRaisable}
 use Rattle.tallies.proofs.Posted.{posted-all, books-countable}
-use Rattle.ranked_reads.specs.Observe.{sightBooked}
 use Rattle.ranked_reads.proofs.Observed.{AnswerTold, told}
 use Rattle.tested_fragments.specs.Tested.{TestedObserved, TestedAudited}
 use Rattle.tested_fragments.proofs.Chain.{roles-same, reads-by-mode}
@@ -47,15 +46,15 @@ module _ (offset : ℕ) (ss : List (List ℕ)) (way : Way) (ranked : List ℕ) (
   f = fragmentOf ordinal count m m′
 
   abbrev refusal : ℕ
-  refusal = testedRefusal offset ss way ranked h f (entryCount buffer)
+  refusal = testedRefusal offset ss ranked h f (entryCount buffer)
 
   -- refused, everything is held as it was
   pub audit-refused : (n : ℕ) → r ≡ fragments.Refused n → (k : Counters) → k ≡ h .counters → TestedAudited offset ss way ranked h f (record { answer = fragments.Refused n; state = h .state }) k buffer entries
   audit-refused n told k same =
-      let w = outcome-number refusal n (testedRows offset ss way ranked h f) (sym (seen .answer) ∙ ap fragmentOutcome told) in
+      let w = outcome-number refusal n (testedRows offset ss ranked h f way) (sym (seen .answer) ∙ ap fragmentOutcome told) in
       record {
         observed = subst (λ a. TestedObserved offset ss way ranked h f a buffer entries) told seen;
-        held = ap {B = Held} (λ z. record { state = h .state; counters = z }) same ∙ sym (refused-holds refusal (λ z. w .1 (sym (w .0) ∙ z)) (testedAccepted offset ss way ranked h f) h);
+        held = ap {B = Held} (λ z. record { state = h .state; counters = z }) same ∙ sym (refused-holds refusal (λ z. w .1 (sym (w .0) ∙ z)) (testedAccepted offset ss ranked h f) h);
       }
 
   -- accepted
@@ -64,7 +63,7 @@ module _ (offset : ℕ) (ss : List (List ℕ)) (way : Way) (ranked : List ℕ) (
     accepted n e = miss (1 ∷ 2 ∷ []) 0 tt (subst (λ a. OneOf (1 ∷ 2 ∷ []) (tagOf the-type a)) e tag)
 
     unrefused : refusal ≡ 0
-    unrefused = not-refused r refusal (testedRows offset ss way ranked h f) tag (seen .answer)
+    unrefused = not-refused r refusal (testedRows offset ss ranked h f way) tag (seen .answer)
 
     checked : TestedChecked offset ss way ranked h f (entryCount buffer)
     checked = tested-checked offset ss way ranked h f (entryCount buffer) unrefused
@@ -72,27 +71,27 @@ module _ (offset : ℕ) (ss : List (List ℕ)) (way : Way) (ranked : List ℕ) (
     reads-are : fragmentReads count m m′ ≡ byMode (s .mode) m m′
     reads-are = reads-by-mode (s .mode) count m m′ (sym (roles-same (s .mode) count m m′) ∙ checked .roles)
 
-    abbrev one : Sight
-    one = sightOf offset s m
+    abbrev one : Observed
+    one = observe offset s m
 
-    abbrev two : Sight
-    two = sightOf offset s m′
+    abbrev two : Observed
+    two = observe offset s m′
 
     abbrev rooms : ℕ
     rooms = roomsRefusal s ss way ranked (byMode (s .mode) one two) (entryCount buffer)
 
     rooms-pass : rooms ≡ 0
-    rooms-pass = rooms-same offset s m m′ one two refl (λ e. refl) (sightRoom s ss (shareOf (s .mode) (entryCount buffer))) ∙ ap (firstRefusal _) (sym reads-are) ∙ checked .rooms
+    rooms-pass = rooms-same offset s m m′ one two refl (λ e. refl) (observedRoom s ss (shareOf (s .mode) (entryCount buffer))) ∙ ap (firstRefusal _) (sym reads-are) ∙ checked .rooms
 
     -- its reads were observed
     reads-seen : ReadsObserved s ss way ranked (byMode (s .mode) one two) r buffer entries
     reads-seen =
         record {
-          answer = seen .answer ∙ ap₂ outcome (unrefused ∙ sym rooms-pass) (ap (map (mateRow offset s ss way)) reads-are ∙ sym (by-mates offset s m m′ one two refl (λ e. refl) (sightRow s ss way)));
+          answer = seen .answer ∙ ap₂ outcome (unrefused ∙ sym rooms-pass) (ap (map ((λ (x : MateRead). observedRow s ss way (observe offset s x)))) reads-are ∙ sym (by-mates offset s m m′ one two refl (λ e. refl) (observedRow s ss way)));
           entries =
               seen .left
               ∙ ap₂ (λ n l. entriesLeft n (inParts (4 * shareOf (s .mode) (entryCount buffer)) 0 l (cleared buffer)) buffer) (unrefused ∙ sym rooms-pass)
-              (ap (map (mateEntries offset s ss ranked)) reads-are ∙ sym (by-mates offset s m m′ one two refl (λ e. refl) (sightEntries s ss ranked)));
+              (ap (map ((λ (x : MateRead). observedEntries s ss ranked (observe offset s x)))) reads-are ∙ sym (by-mates offset s m m′ one two refl (λ e. refl) (observedEntries s ss ranked)));
         }
 
     module _ (limit : limitRight (s .limit) ≡ true) (counters : CountersLent (length (h .counters .placements)) (h .counters)) (places : Ranked (length (h .counters .placements)) ranked)
@@ -103,11 +102,11 @@ module _ (offset : ℕ) (ss : List (List ℕ)) (way : Way) (ranked : List ℕ) (
           (h .counters) refl counters r reads-seen
 
       -- what is posted are the books with its reads
-      posted-is : postedAll (answerPostings r (roleNumber (m .role)) (roleNumber (m′ .role)) (4 * w) entries) (heldBooks h) ≡ testedBooks offset ss way ranked h f
+      posted-is : postedAll (answerPostings r (roleNumber (m .role)) (roleNumber (m′ .role)) (4 * w) entries) (heldBooks h) ≡ testedBooks offset ss ranked h f
       posted-is =
           ap (λ z. postedAll (answerPostings r (roleNumber (m .role)) (roleNumber (m′ .role)) (4 * z) entries) (heldBooks h)) share
-          ∙ posted-all ranked (answerPostings r (roleNumber (m .role)) (roleNumber (m′ .role)) (4 * shareOf (s .mode) (entryCount buffer)) entries) (byMode (s .mode) (sightBooked s ss way (roleNumber (m .role)) one) (sightBooked s ss way (roleNumber (m′ .role)) two)) (of-answer .posts accepted) (heldBooks h)
-          ∙ ap (λ l. bookedAll ranked l (heldBooks h)) (booked-same offset s m m′ one two refl (λ e. refl) ss way ∙ ap (map (mateBooked offset s ss way)) (sym reads-are))
+          ∙ posted-all ranked (answerPostings r (roleNumber (m .role)) (roleNumber (m′ .role)) (4 * shareOf (s .mode) (entryCount buffer)) entries) (byMode (s .mode) (observedBooked s ss (roleNumber (m .role)) one) (observedBooked s ss (roleNumber (m′ .role)) two)) (of-answer .posts accepted) (heldBooks h)
+          ∙ ap (λ l. bookedAll ranked l (heldBooks h)) (booked-same offset s m m′ one two refl (λ e. refl) ss way ∙ ap (map (mateBooked offset s ss)) (sym reads-are))
 
       -- there is room for them
       pub raisable : AnswerRaisable r (roleNumber (m .role)) (roleNumber (m′ .role)) (4 * w) entries h
@@ -115,7 +114,7 @@ module _ (offset : ℕ) (ss : List (List ℕ)) (way : Way) (ranked : List ℕ) (
           record {
             accepted = accepted;
             postable = rw share (of-answer .postable);
-            fits = ap booksSmall posted-is ∙ sym (books-countable (testedBooks offset ss way ranked h f)) ∙ checked .counts;
+            fits = ap booksSmall posted-is ∙ sym (books-countable (testedBooks offset ss ranked h f)) ∙ checked .counts;
           }
 
       -- booked
@@ -124,5 +123,5 @@ module _ (offset : ℕ) (ss : List (List ℕ)) (way : Way) (ranked : List ℕ) (
       audit-booked state k e =
           record {
             observed = seen;
-            held = e ∙ ap {B = Held} (λ (b : Books). record { state = record { settings = s; last = ordinals.Accepted ordinal; ledger = b .ledger }; counters = b .counters }) posted-is ∙ ap (λ n. ifPassed n (testedAccepted offset ss way ranked h f) h) (sym unrefused);
+            held = e ∙ ap {B = Held} (λ (b : Books). record { state = record { settings = s; last = ordinals.Accepted ordinal; ledger = b .ledger }; counters = b .counters }) posted-is ∙ ap (λ n. ifPassed n (testedAccepted offset ss ranked h f) h) (sym unrefused);
           }

@@ -16,38 +16,38 @@ use Rattle.audit_rules.specs.declared.settings.AuditInputMode.{AuditInputMode}
 use Rattle.audit_rules.specs.declared.settings.AuditInputMode.the-variants as modes
 use Rattle.audit_rules.specs.declared.settings.Settings.{Settings}
 use Rattle.audit_rules.specs.Settings.{Held, heldBooks, roleNumber}
-use Rattle.audit_rules.specs.Observing.{MateRead, Sight, sightOf, sightRoom, sightEntries, sightRow, mateRefusal, mateRoom, mateRow, mateBooked, mateEntries}
+use Rattle.audit_rules.specs.Observing.{MateRead, Observed, observe, observedRoom, observedEntries, observedRow, mateRefusal, mateBooked, observedBooked}
 use Rattle.audit_rules.specs.Fragment.{Fragment, inOrder, firstRefusal, shareOf, inParts, entriesLeft, testedBooks, testedRefusal, testedRows, testedWritten}
 use Rattle.audit_rules.specs.Calls.{fragmentOutcome, fragmentReads, fragmentOf}
 use Rattle.checking.specs.Checks.{byMode}
 use Rattle.ordering.specs.Order.{orderRefusal, rolesFit}
-use Rattle.ranked_reads.specs.Observe.{sightBooked, observedRefusal, RankedObserved}
+use Rattle.ranked_reads.specs.Observe.{observedRefusal, RankedObserved}
 use Rattle.tested_fragments.specs.Tested.{TestedObserved}
 use Rattle.tested_fragments.proofs.Chain.{untouched, roles-same, reads-by-mode, Other, other-reads}
 
 -- ---- reads, and what was checked of them: whether they are searched, and their bases
 
-module _ (offset : ℕ) (s : Settings) (m m′ : MateRead) (one two : Sight) (first-is : one ≡ sightOf offset s m) (second-is : s .mode ≡ modes.PairedEnd → two ≡ sightOf offset s m′) where
-  pub by-mates : {A : Type 0} (g : Sight → A) → map g (byMode (s .mode) one two) ≡ map (λ (r : MateRead). g (sightOf offset s r)) (byMode (s .mode) m m′)
+module _ (offset : ℕ) (s : Settings) (m m′ : MateRead) (one two : Observed) (first-is : one ≡ observe offset s m) (second-is : s .mode ≡ modes.PairedEnd → two ≡ observe offset s m′) where
+  pub by-mates : {A : Type 0} (g : Observed → A) → map g (byMode (s .mode) one two) ≡ map (λ (r : MateRead). g (observe offset s r)) (byMode (s .mode) m m′)
   by-mates {A = A} g = go (s .mode) second-is
     where
-      go : (mode : AuditInputMode) → (mode ≡ modes.PairedEnd → two ≡ sightOf offset s m′) → map g (byMode mode one two) ≡ map (λ (r : MateRead). g (sightOf offset s r)) (byMode mode m m′)
+      go : (mode : AuditInputMode) → (mode ≡ modes.PairedEnd → two ≡ observe offset s m′) → map g (byMode mode one two) ≡ map (λ (r : MateRead). g (observe offset s r)) (byMode mode m m′)
       go modes.SingleEnd e = ap {B = List A} (λ z. g z ∷ []) first-is
       go modes.PairedEnd e = ap₂ {C = List A} (λ y z. g y ∷ g z ∷ []) first-is (e refl)
 
-  pub rooms-same : (g : Sight → ℕ) → firstRefusal g (byMode (s .mode) one two) ≡ firstRefusal (λ (r : MateRead). g (sightOf offset s r)) (byMode (s .mode) m m′)
+  pub rooms-same : (g : Observed → ℕ) → firstRefusal g (byMode (s .mode) one two) ≡ firstRefusal (λ (r : MateRead). g (observe offset s r)) (byMode (s .mode) m m′)
   rooms-same g = go (s .mode) second-is
     where
-      go : (mode : AuditInputMode) → (mode ≡ modes.PairedEnd → two ≡ sightOf offset s m′) → firstRefusal g (byMode mode one two) ≡ firstRefusal (λ (r : MateRead). g (sightOf offset s r)) (byMode mode m m′)
+      go : (mode : AuditInputMode) → (mode ≡ modes.PairedEnd → two ≡ observe offset s m′) → firstRefusal g (byMode mode one two) ≡ firstRefusal (λ (r : MateRead). g (observe offset s r)) (byMode mode m m′)
       go modes.SingleEnd e = ap (λ z. g z orElse 0) first-is
       go modes.PairedEnd e = ap₂ (λ y z. g y orElse g z orElse 0) first-is (e refl)
 
-  pub booked-same : (ss : List (List ℕ)) (way : Way) → byMode (s .mode) (sightBooked s ss way (roleNumber (m .role)) one) (sightBooked s ss way (roleNumber (m′ .role)) two) ≡ map (mateBooked offset s ss way) (byMode (s .mode) m m′)
+  pub booked-same : (ss : List (List ℕ)) (way : Way) → byMode (s .mode) (observedBooked s ss (roleNumber (m .role)) one) (observedBooked s ss (roleNumber (m′ .role)) two) ≡ map (mateBooked offset s ss) (byMode (s .mode) m m′)
   booked-same ss way = go (s .mode) second-is
     where
-      go : (mode : AuditInputMode) → (mode ≡ modes.PairedEnd → two ≡ sightOf offset s m′) → byMode mode (sightBooked s ss way (roleNumber (m .role)) one) (sightBooked s ss way (roleNumber (m′ .role)) two) ≡ map (mateBooked offset s ss way) (byMode mode m m′)
-      go modes.SingleEnd e = ap {B = List Booked} (λ z. sightBooked s ss way (roleNumber (m .role)) z ∷ []) first-is
-      go modes.PairedEnd e = ap₂ {C = List Booked} (λ y z. sightBooked s ss way (roleNumber (m .role)) y ∷ sightBooked s ss way (roleNumber (m′ .role)) z ∷ []) first-is (e refl)
+      go : (mode : AuditInputMode) → (mode ≡ modes.PairedEnd → two ≡ observe offset s m′) → byMode mode (observedBooked s ss (roleNumber (m .role)) one) (observedBooked s ss (roleNumber (m′ .role)) two) ≡ map (mateBooked offset s ss) (byMode mode m m′)
+      go modes.SingleEnd e = ap {B = List Booked} (λ z. observedBooked s ss (roleNumber (m .role)) z ∷ []) first-is
+      go modes.PairedEnd e = ap₂ {C = List Booked} (λ y z. observedBooked s ss (roleNumber (m .role)) y ∷ observedBooked s ss (roleNumber (m′ .role)) z ∷ []) first-is (e refl)
 
 -- ---- a fragment, from the check that refuses it, or from what was observed
 
@@ -63,7 +63,7 @@ module _ (offset : ℕ) (ss : List (List ℕ)) (way : Way) (ranked : List ℕ) (
 
   -- 10 and 17
   abbrev rooms : ℕ
-  rooms = firstRefusal (mateRoom offset s ss (shareOf (s .mode) (entryCount buffer))) (fragmentReads count m m′) orElse unless (countable (testedBooks offset ss way ranked h f)) 17
+  rooms = firstRefusal ((λ (x : MateRead). observedRoom s ss (shareOf (s .mode) (entryCount buffer)) (observe offset s x))) (fragmentReads count m m′) orElse unless (countable (testedBooks offset ss ranked h f)) 17
 
   -- the checks of the reads, and 17
   abbrev rest : ℕ
@@ -76,19 +76,19 @@ module _ (offset : ℕ) (ss : List (List ℕ)) (way : Way) (ranked : List ℕ) (
   thirteen = unless (rolesFit (s .mode) count (roleNumber (m .role)) (roleNumber (m′ .role))) 13
 
   -- the chain
-  chain : testedRefusal offset ss way ranked h f (entryCount buffer) ≡ (twelve orElse thirteen orElse rest)
+  chain : testedRefusal offset ss ranked h f (entryCount buffer) ≡ (twelve orElse thirteen orElse rest)
   unfolding testedRefusal
   chain = ap (λ t. twelve orElse unless t 13 orElse rest) (roles-same (s .mode) count m m′)
 
-  abbrev Observed : FragmentAnswer → List ℕ → Type 0
-  Observed r b = TestedObserved offset ss way ranked h f r buffer b
+  abbrev Found : FragmentAnswer → List ℕ → Type 0
+  Found r b = TestedObserved offset ss way ranked h f r buffer b
 
   -- a refusal that touches no entries
-  stays : (n : ℕ) → testedRefusal offset ss way ranked h f (entryCount buffer) ≡ n → (n ≡ 0 → ⊥) → Other n → Observed (fragments.Refused n) buffer
+  stays : (n : ℕ) → testedRefusal offset ss ranked h f (entryCount buffer) ≡ n → (n ≡ 0 → ⊥) → Other n → Found (fragments.Refused n) buffer
   stays n e ne o =
       record {
-        answer = outcome-refused n _ ne ∙ ap (λ z. outcome z (testedRows offset ss way ranked h f)) (sym e);
-        left = sym (ap (λ z. entriesLeft z (testedWritten offset ss way ranked h f buffer) buffer) e ∙ untouched n ne (o .0) (o .1) (testedWritten offset ss way ranked h f buffer) buffer);
+        answer = outcome-refused n _ ne ∙ ap (λ z. outcome z (testedRows offset ss ranked h f way)) (sym e);
+        left = sym (ap (λ z. entriesLeft z (testedWritten offset ss ranked h f buffer) buffer) e ∙ untouched n ne (o .0) (o .1) (testedWritten offset ss ranked h f buffer) buffer);
       }
 
   order-other : Other order
@@ -100,7 +100,7 @@ module _ (offset : ℕ) (ss : List (List ℕ)) (way : Way) (ranked : List ℕ) (
       go false b = (λ e. omega arith, λ e. omega arith)
 
   -- 12 or 13
-  pub by-order : (n : ℕ) → n ≡ order → (n ≡ 0 → ⊥) → Observed (fragments.Refused n) buffer
+  pub by-order : (n : ℕ) → n ≡ order → (n ≡ 0 → ⊥) → Found (fragments.Refused n) buffer
   by-order n e ne = stays n (chain ∙ grouped twelve thirteen rest ∙ stands n order rest ne (sym e)) ne (subst Other (sym e) order-other)
 
   module _ (ordered : order ≡ 0) where
@@ -111,45 +111,45 @@ module _ (offset : ℕ) (ss : List (List ℕ)) (way : Way) (ranked : List ℕ) (
         (passed (rolesFit (s .mode) count (roleNumber (m .role)) (roleNumber (m′ .role))) 13 (λ z. omega arith) (none-second (unless (inOrder (h .state .last) ordinal) 12) _ ordered))
 
     -- what is left of the chain
-    rest-is : testedRefusal offset ss way ranked h f (entryCount buffer) ≡ rest
+    rest-is : testedRefusal offset ss ranked h f (entryCount buffer) ≡ rest
     rest-is = chain ∙ grouped twelve thirteen rest ∙ ap (λ z. z orElse rest) ordered
 
     -- 7 or 14 to 16
-    pub by-reads : (n : ℕ) → firstRefusal (mateRefusal offset s) (byMode (s .mode) m m′) ≡ n → (n ≡ 0 → ⊥) → Observed (fragments.Refused n) buffer
+    pub by-reads : (n : ℕ) → firstRefusal (mateRefusal offset s) (byMode (s .mode) m m′) ≡ n → (n ≡ 0 → ⊥) → Found (fragments.Refused n) buffer
     by-reads n e ne =
         let g : firstRefusal (mateRefusal offset s) (fragmentReads count m m′) ≡ n = ap (firstRefusal (mateRefusal offset s)) reads-are ∙ e in
         stays n (rest-is ∙ stands n _ rooms ne g) ne (subst Other g (other-reads offset s (fragmentReads count m m′)))
 
     -- observed
     module _ (checked : firstRefusal (mateRefusal offset s) (byMode (s .mode) m m′) ≡ 0) where
-      rooms-are : testedRefusal offset ss way ranked h f (entryCount buffer) ≡ rooms
+      rooms-are : testedRefusal offset ss ranked h f (entryCount buffer) ≡ rooms
       rooms-are = rest-is ∙ ap (λ z. z orElse rooms) (ap (firstRefusal (mateRefusal offset s)) reads-are ∙ checked)
 
       -- said of the reads by mode
       abbrev Seen : List MateRead → FragmentAnswer → List ℕ → Type 0
       Seen reads r b =
-          (fragmentOutcome r ≡ outcome (refusalOf reads) (map (mateRow offset s ss way) reads)) × (b ≡ entriesLeft (refusalOf reads) (inParts (4 * shareOf (s .mode) (entryCount buffer)) 0 (map (mateEntries offset s ss ranked) reads) (cleared buffer)) buffer)
+          (fragmentOutcome r ≡ outcome (refusalOf reads) (map ((λ (x : MateRead). observedRow s ss way (observe offset s x))) reads)) × (b ≡ entriesLeft (refusalOf reads) (inParts (4 * shareOf (s .mode) (entryCount buffer)) 0 (map ((λ (x : MateRead). observedEntries s ss ranked (observe offset s x))) reads) (cleared buffer)) buffer)
         where
           refusalOf : List MateRead → ℕ
-          refusalOf ms = firstRefusal (mateRoom offset s ss (shareOf (s .mode) (entryCount buffer))) ms orElse unless (countable (bookedAll ranked (map (mateBooked offset s ss way) ms) (heldBooks h))) 17
+          refusalOf ms = firstRefusal ((λ (x : MateRead). observedRoom s ss (shareOf (s .mode) (entryCount buffer)) (observe offset s x))) ms orElse unless (countable (bookedAll ranked (map (mateBooked offset s ss) ms) (heldBooks h))) 17
 
-      as-seen : (r : FragmentAnswer) (b : List ℕ) → Seen (byMode (s .mode) m m′) r b → Observed r b
+      as-seen : (r : FragmentAnswer) (b : List ℕ) → Seen (byMode (s .mode) m m′) r b → Found r b
       as-seen r b seen =
           let z : Seen (fragmentReads count m m′) r b = subst (λ (l : List MateRead). Seen l r b) (sym reads-are) seen in
-          record { answer = z .0 ∙ ap (λ n. outcome n (testedRows offset ss way ranked h f)) (sym rooms-are); left = z .1 ∙ ap (λ n. entriesLeft n (testedWritten offset ss way ranked h f buffer) buffer) (sym rooms-are) }
+          record { answer = z .0 ∙ ap (λ n. outcome n (testedRows offset ss ranked h f way)) (sym rooms-are); left = z .1 ∙ ap (λ n. entriesLeft n (testedWritten offset ss ranked h f buffer) buffer) (sym rooms-are) }
 
       -- the same said of what was checked of them
-      module _ (one two : Sight) (first-is : one ≡ sightOf offset s m) (second-is : s .mode ≡ modes.PairedEnd → two ≡ sightOf offset s m′) where
+      module _ (one two : Observed) (first-is : one ≡ observe offset s m) (second-is : s .mode ≡ modes.PairedEnd → two ≡ observe offset s m′) where
         abbrev number : ℕ
         number = observedRefusal s ss way ranked (roleNumber (m .role)) (roleNumber (m′ .role)) one two (h .state .ledger) (h .counters) (entryCount buffer)
 
-        number-is : number ≡ (firstRefusal (mateRoom offset s ss (shareOf (s .mode) (entryCount buffer))) (byMode (s .mode) m m′) orElse unless (countable (bookedAll ranked (map (mateBooked offset s ss way) (byMode (s .mode) m m′)) (heldBooks h))) 17)
+        number-is : number ≡ (firstRefusal ((λ (x : MateRead). observedRoom s ss (shareOf (s .mode) (entryCount buffer)) (observe offset s x))) (byMode (s .mode) m m′) orElse unless (countable (bookedAll ranked (map (mateBooked offset s ss) (byMode (s .mode) m m′)) (heldBooks h))) 17)
         number-is =
-            ap₂ (λ x l. x orElse unless (countable (bookedAll ranked l (heldBooks h))) 17) (rooms-same offset s m m′ one two first-is second-is (sightRoom s ss (shareOf (s .mode) (entryCount buffer)))) (booked-same offset s m m′ one two first-is second-is ss way)
+            ap₂ (λ x l. x orElse unless (countable (bookedAll ranked l (heldBooks h))) 17) (rooms-same offset s m m′ one two first-is second-is (observedRoom s ss (shareOf (s .mode) (entryCount buffer)))) (booked-same offset s m m′ one two first-is second-is ss way)
 
         -- so it was observed as a whole
-        pub by-ranked : (r : FragmentAnswer) (b : List ℕ) → RankedObserved s ss way ranked (roleNumber (m .role)) (roleNumber (m′ .role)) one two (h .state .ledger) (h .counters) r buffer b → Observed r b
+        pub by-ranked : (r : FragmentAnswer) (b : List ℕ) → RankedObserved s ss way ranked (roleNumber (m .role)) (roleNumber (m′ .role)) one two (h .state .ledger) (h .counters) r buffer b → Found r b
         by-ranked r b seen = as-seen r b (
-          seen .answer ∙ ap₂ outcome number-is (by-mates offset s m m′ one two first-is second-is (sightRow s ss way)),
-          seen .entries ∙ ap₂ (λ n l. entriesLeft n (inParts (4 * shareOf (s .mode) (entryCount buffer)) 0 l (cleared buffer)) buffer) number-is (by-mates offset s m m′ one two first-is second-is (sightEntries s ss ranked)),
+          seen .answer ∙ ap₂ outcome number-is (by-mates offset s m m′ one two first-is second-is (observedRow s ss way)),
+          seen .entries ∙ ap₂ (λ n l. entriesLeft n (inParts (4 * shareOf (s .mode) (entryCount buffer)) 0 l (cleared buffer)) buffer) number-is (by-mates offset s m m′ one two first-is second-is (observedEntries s ss ranked)),
         )

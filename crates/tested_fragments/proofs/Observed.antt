@@ -25,14 +25,14 @@ use Rattle.audit_rules.specs.declared.settings.AuditInputMode.{AuditInputMode}
 use Rattle.audit_rules.specs.declared.settings.AuditInputMode.the-variants as modes
 use Rattle.audit_rules.specs.declared.settings.Settings.{Settings}
 use Rattle.audit_rules.specs.Settings.{Held, roleNumber}
-use Rattle.audit_rules.specs.Observing.{MateRead, isEligible, sightRow, mateRefusal, isSearched}
+use Rattle.audit_rules.specs.Observing.{MateRead, isEligible, observedRow, mateRefusal, isSearched}
 use Rattle.audit_rules.specs.Fragment.{firstRefusal}
 use Rattle.audit_rules.specs.Calls.{fragmentOf}
 use Rattle.checking.specs.Checks.{byMode, ifPaired, checksOutcome}
 use Rattle.checking.specs.declared.SearchedReads.{SearchedReads}
 use Rattle.checking.specs.declared.ReadsCheck.{ReadsCheck}
 use Rattle.checking.specs.declared.ReadsCheck.the-variants as pairs
-use Rattle.sighting.specs.Sights.{wayIf, Sighted, sight}
+use Rattle.sighting.specs.Sights.{wayIf, Sighted, asObserved}
 use Rattle.ordering.specs.Order.{orderRefusal}
 use Rattle.ranked_reads.specs.Observe.{observedRefusal, RankedLent, RankedObserved}
 use Rattle.tested_fragments.specs.Tested.{Tested, TestedObserved}
@@ -75,10 +75,10 @@ module _ (offset : ℕ) (s : Settings) (m m′ : MateRead) where
 
 -- two reads that are not searched are observed alike either way
 unsearched : (s : Settings) (ss : List (List ℕ)) (way way′ : Way) (ranked : List ℕ) (a b : ℕ) (first second : List ℕ) (l : Ledger) (k : Counters) (r : FragmentAnswer) (buffer buffer′ : List ℕ)
-    → RankedObserved s ss way ranked a b (sight false first) (sight false second) l k r buffer buffer′ → RankedObserved s ss way′ ranked a b (sight false first) (sight false second) l k r buffer buffer′
-unsearched s ss way way′ ranked a b first second l k r buffer buffer′ seen = record { answer = seen .answer ∙ ap (λ z. outcome (observedRefusal s ss way ranked a b (sight false first) (sight false second) l k (entryCount buffer)) z) (rows (s .mode)); entries = seen .entries }
+    → RankedObserved s ss way ranked a b (asObserved false first) (asObserved false second) l k r buffer buffer′ → RankedObserved s ss way′ ranked a b (asObserved false first) (asObserved false second) l k r buffer buffer′
+unsearched s ss way way′ ranked a b first second l k r buffer buffer′ seen = record { answer = seen .answer ∙ ap (λ z. outcome (observedRefusal s ss way ranked a b (asObserved false first) (asObserved false second) l k (entryCount buffer)) z) (rows (s .mode)); entries = seen .entries }
   where
-    rows : (mode : AuditInputMode) → map (sightRow s ss way) (byMode mode (sight false first) (sight false second)) ≡ map (sightRow s ss way′) (byMode mode (sight false first) (sight false second))
+    rows : (mode : AuditInputMode) → map (observedRow s ss way) (byMode mode (asObserved false first) (asObserved false second)) ≡ map (observedRow s ss way′) (byMode mode (asObserved false first) (asObserved false second))
     rows modes.SingleEnd = refl
     rows modes.PairedEnd = refl
 
@@ -127,7 +127,7 @@ module _ (offset : ℕ) (ss : List (List ℕ)) (indexed : Bool) (q : ℕ) (ranke
           }
 
       abbrev Ranked : Way → SearchedReads → FragmentAnswer → List ℕ → Type 0
-      Ranked way p a b = RankedObserved s ss way ranked (roleNumber (m .role)) (roleNumber (m′ .role)) (sight (p .first) (m .read .bases)) (sight (p .second) (m′ .read .bases)) (h .state .ledger) (h .counters) a buffer b
+      Ranked way p a b = RankedObserved s ss way ranked (roleNumber (m .role)) (roleNumber (m′ .role)) (asObserved (p .first) (m .read .bases)) (asObserved (p .second) (m′ .read .bases)) (h .state .ledger) (h .counters) a buffer b
 
       -- by the index or not, as if it had been tested
       either-way : (a : FragmentAnswer) (b : List ℕ) → Ranked (wayIf (indexed && s .remap) q) p a b → Ranked (wayIf indexed q) p a b
@@ -150,6 +150,6 @@ module _ (offset : ℕ) (ss : List (List ℕ)) (indexed : Bool) (q : ℕ) (ranke
       pub reads-observed : orderRefusal (h .state .last) ordinal (s .mode) count (roleNumber (m .role)) (roleNumber (m′ .role)) ≡ 0 → (searchable : Bool) → searchable ≡ (indexed && s .remap)
           → (a : FragmentAnswer) (b : List ℕ) → Ranked (wayIf searchable q) p a b → Seen a b
       reads-observed ordered searchable e a b seen =
-          by-ranked offset ss (wayIf indexed q) ranked h ordinal count m m′ buffer ordered (reads-passed .0) (sight (p .first) (m .read .bases)) (sight (p .second) (m′ .read .bases))
-          (ap (λ t. sight t (m .read .bases)) (sym first-is)) (λ z. ap (λ t. sight t (m′ .read .bases)) (sym second-is ∙ ap (λ mode. ifPaired mode (isSearched offset s m′)) z))
+          by-ranked offset ss (wayIf indexed q) ranked h ordinal count m m′ buffer ordered (reads-passed .0) (asObserved (p .first) (m .read .bases)) (asObserved (p .second) (m′ .read .bases))
+          (ap (λ t. asObserved t (m .read .bases)) (sym first-is)) (λ z. ap (λ t. asObserved t (m′ .read .bases)) (sym second-is ∙ ap (λ mode. ifPaired mode (isSearched offset s m′)) z))
           a b (either-way a b (rw e at seen))

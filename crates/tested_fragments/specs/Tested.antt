@@ -29,10 +29,10 @@ pub record Tested (indexed : Bool) (q : ℕ) (bases ends ranked ks rs os : List 
 module _ (offset : ℕ) (ss : List (List ℕ)) (way : Way) (ranked : List ℕ) (h : Held) (f : Fragment) where
   -- observed: its answer, and the entries
   pub record TestedObserved (r : FragmentAnswer) (buffer buffer′ : List ℕ) : Type 0 where
-    pub answer : fragmentOutcome r ≡ outcome (testedRefusal offset ss way ranked h f (entryCount buffer)) (testedRows offset ss way ranked h f)
-    pub left : buffer′ ≡ entriesLeft (testedRefusal offset ss way ranked h f (entryCount buffer)) (testedWritten offset ss way ranked h f buffer) buffer
+    pub answer : fragmentOutcome r ≡ outcome (testedRefusal offset ss ranked h f (entryCount buffer)) (testedRows offset ss ranked h f way)
+    pub left : buffer′ ≡ entriesLeft (testedRefusal offset ss ranked h f (entryCount buffer)) (testedWritten offset ss ranked h f buffer) buffer
 
   -- observed, and booked where it is not refused
   pub record TestedAudited (r : FragmentAudit) (k′ : Counters) (buffer buffer′ : List ℕ) : Type 0 where
     pub observed : TestedObserved (r .answer) buffer buffer′
-    pub held : record { state = r .state; counters = k′ } ≡ ifPassed (testedRefusal offset ss way ranked h f (entryCount buffer)) (testedAccepted offset ss way ranked h f) h
+    pub held : record { state = r .state; counters = k′ } ≡ ifPassed (testedRefusal offset ss ranked h f (entryCount buffer)) (testedAccepted offset ss ranked h f) h

@@ -23,12 +23,11 @@ use Rattle.audit_rules.specs.declared.calls.FragmentAnswer.the-variants as frag
 use Rattle.audit_rules.proofs.calls.FragmentAnswer.{the-type}
 use Rattle.audit_rules.specs.declared.settings.Settings.{Settings}
 use Rattle.audit_rules.specs.Settings.{Held, roleNumber}
-use Rattle.audit_rules.specs.Observing.{MateRead, sightOf, mateGroups, mateRoom, mateRow}
+use Rattle.audit_rules.specs.Observing.{MateRead, observe, observedGroups, observedRoom, observedRow}
 use Rattle.audit_rules.specs.Fragment.{Fragment, firstRefusal, shareOf, testedRefusal, testedRows}
 use Rattle.audit_rules.specs.Calls.{mappingRow, fragmentOutcome, fragmentOf}
 use Rattle.audit_rules.proofs.Checking.{tested-checked}
 use Rattle.tallies.specs.Answers.{AnswerPostable}
-use Rattle.ranked_reads.proofs.Seeing.{sight-listed}
 use Rattle.tested_fragments.specs.Tested.{TestedObserved}
 use Rattle.tested_fragments.proofs.Booked.{raisable}
 use Rattle.texts.specs.Writing.{AddsAtMost}
@@ -78,12 +77,12 @@ answer-room ids ends entries share whole (fragments.Paired m) l f = omega (arith
 
 module _ (offset : ℕ) (s : Settings) (ss : List (List ℕ)) (way : Way) (share : ℕ) where
   -- a read has no more than its share
-  mate-few : (r : MateRead) → mateRoom offset s ss share r ≡ 0 → mateRow offset s ss way r .groups ≤ share
-  mate-few r z = omega (arith, sight-listed s ss (sightOf offset s r) way, listed-room share (s .limit) (mateGroups offset s ss r) z)
+  mate-few : (r : MateRead) → observedRoom s ss share (observe offset s r) ≡ 0 → observedRow s ss way (observe offset s r) .groups ≤ share
+  mate-few r z = omega (arith, listed-room share (s .limit) (observedGroups s ss (observe offset s r)) z)
 
-  first-few : (reads : List MateRead) (x : Row) (xs : List Row) → map (mateRow offset s ss way) reads ≡ x ∷ xs → firstRefusal (mateRoom offset s ss share) reads ≡ 0 → x .groups ≤ share
+  first-few : (reads : List MateRead) (x : Row) (xs : List Row) → map ((λ (x : MateRead). observedRow s ss way (observe offset s x))) reads ≡ x ∷ xs → firstRefusal ((λ (x : MateRead). observedRoom s ss share (observe offset s x))) reads ≡ 0 → x .groups ≤ share
   first-few [] x xs e z = absurd (omega (arith, ap length e))
-  first-few (r ∷ rs) x xs e z = subst (λ (y : Row). y .groups ≤ share) (head-eq-of-cons-eq e) (mate-few r (none-first (mateRoom offset s ss share r) (firstRefusal (mateRoom offset s ss share) rs) z))
+  first-few (r ∷ rs) x xs e z = subst (λ (y : Row). y .groups ≤ share) (head-eq-of-cons-eq e) (mate-few r (none-first (observedRoom s ss share (observe offset s r)) (firstRefusal ((λ (x : MateRead). observedRoom s ss share (observe offset s x))) rs) z))
 
 -- ---- an audited fragment, whatever was audited
 
@@ -98,11 +97,11 @@ module _ (bases baseEnds ranked ks rs os ids ends bytes : List ℕ) (head : Frag
 
   -- accepted, it is not refused, and each read has a row
   module _ (f : Fragment) (r : FragmentAnswer) (rows : List Row) (seen : Seen f r) (told : fragmentOutcome r ≡ accepted rows) where
-    unrefused : (testedRefusal offset ss way ranked h f (entryCount entries) ≡ 0) × (testedRows offset ss way ranked h f ≡ rows)
-    unrefused = outcome-accepted (testedRefusal offset ss way ranked h f (entryCount entries)) (testedRows offset ss way ranked h f) rows (sym (seen .answer) ∙ told)
+    unrefused : (testedRefusal offset ss ranked h f (entryCount entries) ≡ 0) × (testedRows offset ss ranked h f way ≡ rows)
+    unrefused = outcome-accepted (testedRefusal offset ss ranked h f (entryCount entries)) (testedRows offset ss ranked h f way) rows (sym (seen .answer) ∙ told)
 
     as-many : length (f .reads) ≡ length rows
-    as-many = sym (length-map (f .reads) (mateRow offset (h .state .settings) ss way)) ∙ ap length (unrefused .1)
+    as-many = sym (length-map (f .reads) ((λ (x : MateRead). observedRow (h .state .settings) ss way (observe offset (h .state .settings) x)))) ∙ ap length (unrefused .1)
 
   -- accepted, as its reads were lent
   accepted-lent : (ordinal count : ℕ) (m m′ : MateRead) (r : FragmentAnswer) → Seen (fragmentOf ordinal count m m′) r → OneOf (1 ∷ 2 ∷ []) (tagOf the-type r) → AnswerLent ids ends entries′ (4 * share) r
