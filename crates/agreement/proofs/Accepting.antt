@@ -118,15 +118,15 @@ module _ (q offset : ℕ) (c : Catalogue) (h : Held) (x : Call) where
       (both-pass (unless (rolesRight (s .mode) (x .fragment .reads)) 13) _ (unrefused _ 13 (true-same _ _ (a .roles)))
       (both-pass (firstRefusal (mateRefusal offset s) (x .fragment .reads)) _
       (all-pass (mateRefusal offset s) (x .fragment .reads) (λ r m. read-passes offset s r (a .lengths r m) (λ t. a .verdicts t r m)))
-      (both-pass (firstRefusal ((λ (x : MateRead). observedRoom s (mappedSequences c) (shareOf (s .mode) (entryCount (x .entries))) (observe offset s x))) (x .fragment .reads)) _
-      (all-pass ((λ (x : MateRead). observedRoom s (mappedSequences c) (shareOf (s .mode) (entryCount (x .entries))) (observe offset s x))) (x .fragment .reads) (λ r m. room-passes _ (s .limit) _ (a .rooms r m)))
+      (both-pass (firstRefusal (λ (r : MateRead). observedRoom s (mappedSequences c) (shareOf (s .mode) (entryCount (x .entries))) (observe offset s r)) (x .fragment .reads)) _
+      (all-pass (λ (r : MateRead). observedRoom s (mappedSequences c) (shareOf (s .mode) (entryCount (x .entries))) (observe offset s r)) (x .fragment .reads) (λ r m. room-passes _ (s .limit) _ (a .rooms r m)))
       (unrefused _ 17 (counts-pass (fragmentBooks offset c h (x .fragment)) (a .counts)))))))
 
   passed-acceptable : refusal ≡ 0 → Acceptable q offset c h x
   passed-acceptable z =
       let p = fragment-checked q offset c (x .lent) h (x .fragment) (entryCount (x .entries)) z in
       let reads = each-passes (mateRefusal offset s) (x .fragment .reads) (p .own .reads) in
-      let rooms = each-passes ((λ (x : MateRead). observedRoom s (mappedSequences c) (shareOf (s .mode) (entryCount (x .entries))) (observe offset s x))) (x .fragment .reads) (p .own .rooms) in
+      let rooms = each-passes (λ (r : MateRead). observedRoom s (mappedSequences c) (shareOf (s .mode) (entryCount (x .entries))) (observe offset s r)) (x .fragment .reads) (p .own .rooms) in
       record {
         opening = p .opening;
         order = λ last e. order-passed (h .state .last) (x .fragment .ordinal) last e (p .own .order);

@@ -46,15 +46,15 @@ module _ (q offset : ℕ) (some : 1 ≤ q) (c : Catalogue) (right : Valid c) whe
     module _ (z : fragmentRefusal q offset c lent h fragment (entryCount (x .entries)) ≡ 0) (z′ : fragmentRefusal q offset c none h plainFragment (entryCount (x .plainEntries)) ≡ 0) where
       -- both accept it: every read agrees
       fragment-agrees : ReadsAgree c (4 * shareOf (s .mode) (entryCount (x .entries))) (4 * shareOf (s .mode) (entryCount (x .plainEntries))) (x .reads)
-          (map ((λ (x : MateRead). observedRow s (mappedSequences c) (byIndex q) (observe offset s x))) (fragment .reads)) (map ((λ (x : MateRead). observedRow s (mappedSequences c) plain (observe offset s x))) (plainFragment .reads))
+          (map (λ (r : MateRead). observedRow s (mappedSequences c) (byIndex q) (observe offset s r)) (fragment .reads)) (map (λ (r : MateRead). observedRow s (mappedSequences c) plain (observe offset s r)) (plainFragment .reads))
           (fragmentWritten offset c h fragment (x .entries)) (fragmentWritten offset c h plainFragment (x .plainEntries))
       fragment-agrees =
           let a = fragment-checked q offset c lent h fragment (entryCount (x .entries)) z .own in
           let b = fragment-checked q offset c none h plainFragment (entryCount (x .plainEntries)) z′ .own in
           record {
             rows = map (twinRow q offset some c right s) (x .reads);
-            firsts-are = map-map (λ (y : TwinRow). y .first) (twinRow q offset some c right s) (x .reads) ∙ sym (map-map ((λ (x : MateRead). observedRow s (mappedSequences c) (byIndex q) (observe offset s x))) (λ (t : TwinRead). t .mate) (x .reads));
-            seconds-are = map-map (λ (y : TwinRow). y .second) (twinRow q offset some c right s) (x .reads) ∙ sym (map-map ((λ (x : MateRead). observedRow s (mappedSequences c) plain (observe offset s x))) plainMate (x .reads));
+            firsts-are = map-map (λ (y : TwinRow). y .first) (twinRow q offset some c right s) (x .reads) ∙ sym (map-map (λ (r : MateRead). observedRow s (mappedSequences c) (byIndex q) (observe offset s r)) (λ (t : TwinRead). t .mate) (x .reads));
+            seconds-are = map-map (λ (y : TwinRow). y .second) (twinRow q offset some c right s) (x .reads) ∙ sym (map-map (λ (r : MateRead). observedRow s (mappedSequences c) plain (observe offset s r)) plainMate (x .reads));
             each =
                 all-agree q offset some c right s (x .reads) (a .reads) (b .reads) (4 * shareOf (s .mode) (entryCount (x .entries))) (4 * shareOf (s .mode) (entryCount (x .plainEntries))) 0
                 (x .entries) (fragmentWritten offset c h fragment (x .entries)) (x .plainEntries) (fragmentWritten offset c h plainFragment (x .plainEntries))
@@ -104,10 +104,10 @@ module _ (q offset : ℕ) (some : 1 ≤ q) (c : Catalogue) (right : Valid c) whe
       (λ g. calls-agree xs g (suc i)) (head-eq-of-cons-eq e) (tail-eq-of-cons-eq e)
     where
       first : ℕ → Answer
-      first k = record { rows = outcome k (map ((λ (x : MateRead). observedRow (h .state .settings) (mappedSequences c) (byIndex q) (observe offset (h .state .settings) x))) (fragment h x .reads)); entries = entriesLeft k (fragmentWritten offset c h (fragment h x) (x .entries)) (x .entries) }
+      first k = record { rows = outcome k (map (λ (r : MateRead). observedRow (h .state .settings) (mappedSequences c) (byIndex q) (observe offset (h .state .settings) r)) (fragment h x .reads)); entries = entriesLeft k (fragmentWritten offset c h (fragment h x) (x .entries)) (x .entries) }
 
       second : ℕ → Answer
-      second k = record { rows = outcome k (map ((λ (x : MateRead). observedRow (h .state .settings) (mappedSequences c) plain (observe offset (h .state .settings) x))) (plainFragment h x .reads)); entries = entriesLeft k (fragmentWritten offset c h (plainFragment h x) (x .plainEntries)) (x .plainEntries) }
+      second k = record { rows = outcome k (map (λ (r : MateRead). observedRow (h .state .settings) (mappedSequences c) plain (observe offset (h .state .settings) r)) (plainFragment h x .reads)); entries = entriesLeft k (fragmentWritten offset c h (plainFragment h x) (x .plainEntries)) (x .plainEntries) }
 
       pair : ℕ → ℕ → TwinAnswer
       pair k k′ = record { first = first k; second = second k′ }

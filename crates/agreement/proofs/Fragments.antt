@@ -128,7 +128,7 @@ module _ (q offset : ℕ) (some : 1 ≤ q) (c : Catalogue) (valid : Valid c) (s 
 
   -- each read from the place i on
   pub all-agree : (ts : List TwinRead) → Unrefused (mates ts) → Unrefused (map plainMate ts) → (width width′ i : ℕ) (before after before′ after′ : List ℕ)
-      → InParts cleared width (width * i) (map ((λ (x : MateRead). observedEntries s ss ranked (observe offset s x))) (mates ts)) before after → InParts cleared width′ (width′ * i) (map ((λ (x : MateRead). observedEntries s ss ranked (observe offset s x))) (map plainMate ts)) before′ after′
+      → InParts cleared width (width * i) (map (λ (r : MateRead). observedEntries s ss ranked (observe offset s r)) (mates ts)) before after → InParts cleared width′ (width′ * i) (map (λ (r : MateRead). observedEntries s ss ranked (observe offset s r)) (map plainMate ts)) before′ after′
       → Each (λ i (t : TwinRead) (x : TwinRow). ReadAgrees c t (x .first) (x .second) (window after (width * i) width) (window after′ (width′ * i) width′)) i ts (map twinRow ts)
   all-agree [] z z′ width width′ i before after before′ after′ p p′ = no-more i
   all-agree (t ∷ ts) z z′ width width′ i before after before′ after′ p p′ =

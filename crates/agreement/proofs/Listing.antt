@@ -54,16 +54,16 @@ module _ (q offset : ℕ) (c : Catalogue) (h : Held) (x : Call) (rows : List Row
   abbrev width : ℕ
   width = 4 * shareOf (s .mode) (entryCount (x .entries))
 
-  answered : (refusal ≡ 0) × (map ((λ (x : MateRead). observedRow s (mappedSequences c) (wayOf q (x .lent)) (observe offset s x))) (x .fragment .reads) ≡ rows)
+  answered : (refusal ≡ 0) × (map (λ (r : MateRead). observedRow s (mappedSequences c) (wayOf q (x .lent)) (observe offset s r)) (x .fragment .reads) ≡ rows)
   answered = outcome-accepted refusal _ rows told
 
   -- what its checks have shown
   checked : Checked q offset c (x .lent) h (x .fragment) (entryCount (x .entries))
   checked = fragment-checked q offset c (x .lent) h (x .fragment) (entryCount (x .entries)) (answered .0)
 
-  in-parts : InParts cleared width 0 (map ((λ (x : MateRead). observedEntries s (mappedSequences c) (suppliedPlaces c) (observe offset s x))) (x .fragment .reads)) (x .entries) (answerTo q offset c h x .entries)
+  in-parts : InParts cleared width 0 (map (λ (r : MateRead). observedEntries s (mappedSequences c) (suppliedPlaces c) (observe offset s r)) (x .fragment .reads)) (x .entries) (answerTo q offset c h x .entries)
   in-parts =
-      subst (λ n. InParts cleared width 0 (map ((λ (x : MateRead). observedEntries s (mappedSequences c) (suppliedPlaces c) (observe offset s x))) (x .fragment .reads)) (x .entries) (entriesLeft n (fragmentWritten offset c h (x .fragment) (x .entries)) (x .entries)))
+      subst (λ n. InParts cleared width 0 (map (λ (r : MateRead). observedEntries s (mappedSequences c) (suppliedPlaces c) (observe offset s r)) (x .fragment .reads)) (x .entries) (entriesLeft n (fragmentWritten offset c h (x .fragment) (x .entries)) (x .entries)))
       (sym (answered .0)) (reads-in-parts offset s (mappedSequences c) (suppliedPlaces c) (x .fragment .reads) (x .entries) (checked .own .roles) (checked .own .rooms))
 
   -- a read's row, and what is booked of it
@@ -71,7 +71,7 @@ module _ (q offset : ℕ) (c : Catalogue) (h : Held) (x : Call) (rows : List Row
   toldOf r = record { row = observedRow s (mappedSequences c) (wayOf q (x .lent)) (observe offset s r); booked = mateBooked offset s (mappedSequences c) r }
 
   -- each read from the place i on
-  reads-mean : (reads : List MateRead) (i : ℕ) → InParts cleared width (width * i) (map ((λ (x : MateRead). observedEntries s (mappedSequences c) (suppliedPlaces c) (observe offset s x))) reads) (x .entries) (answerTo q offset c h x .entries)
+  reads-mean : (reads : List MateRead) (i : ℕ) → InParts cleared width (width * i) (map (λ (r : MateRead). observedEntries s (mappedSequences c) (suppliedPlaces c) (observe offset s r)) reads) (x .entries) (answerTo q offset c h x .entries)
       → Each (λ i (r : MateRead) (t : Told). ReadMeans offset s c r (t .row) (t .booked) (window (x .entries) (width * i) width) (window (answerTo q offset c h x .entries) (width * i) width)) i reads (map toldOf reads)
   reads-mean [] i p = no-more i
   reads-mean (r ∷ reads) i p =

@@ -23,7 +23,7 @@ use Rattle.candidates.proofs.Candidates.{comparable-fewer}
 use Rattle.index_search.specs.Work.{work, scanWork, byIndex, plain}
 use Rattle.answers.specs.Bounds.{lengthRight}
 use Rattle.answers.specs.Answer.{listed}
-use Rattle.search.proofs.Listed.{none-listed, row-groups, listed-part}
+use Rattle.search.proofs.Listed.{none-listed, listed-part}
 use Rattle.indexed_mapper.specs.Laws.{turnedGroups}
 use Rattle.indexed_mapper.proofs.Laws.{row-work, number-turned, listed-turned}
 use Rattle.ledger.specs.Booking.{targetsOf}

@@ -22,7 +22,7 @@ pub record TestedChecked (offset : ℕ) (ss : List (List ℕ)) (way : Way) (rank
   pub order : inOrder (h .state .last) (f .ordinal) ≡ true
   pub roles : rolesRight (h .state .settings .mode) (f .reads) ≡ true
   pub reads : firstRefusal (mateRefusal offset (h .state .settings)) (f .reads) ≡ 0
-  pub rooms : firstRefusal ((λ (x : MateRead). observedRoom (h .state .settings) ss (shareOf (h .state .settings .mode) entries) (observe offset (h .state .settings) x))) (f .reads) ≡ 0
+  pub rooms : firstRefusal (λ (r : MateRead). observedRoom (h .state .settings) ss (shareOf (h .state .settings .mode) entries) (observe offset (h .state .settings) r)) (f .reads) ≡ 0
   pub counts : countable (testedBooks offset ss ranked h f) ≡ true
 
 pub tested-checked : (offset : ℕ) (ss : List (List ℕ)) (way : Way) (ranked : List ℕ) (h : Held) (f : Fragment) (entries : ℕ) → testedRefusal offset ss ranked h f entries ≡ 0 → TestedChecked offset ss way ranked h f entries
@@ -32,12 +32,12 @@ tested-checked offset ss way ranked h f entries e =
     let b = none-second (unless (inOrder (h .state .last) (f .ordinal)) 12) _ e in
     let d = none-second (unless (rolesRight (s .mode) (f .reads)) 13) _ b in
     let g = none-second (firstRefusal (mateRefusal offset s) (f .reads)) _ d in
-    let i = none-second (firstRefusal ((λ (x : MateRead). observedRoom s ss (shareOf (s .mode) entries) (observe offset s x))) (f .reads)) _ g in
+    let i = none-second (firstRefusal (λ (r : MateRead). observedRoom s ss (shareOf (s .mode) entries) (observe offset s r)) (f .reads)) _ g in
     record {
       order = passed (inOrder (h .state .last) (f .ordinal)) 12 (λ z. omega arith) (none-first (unless (inOrder (h .state .last) (f .ordinal)) 12) _ e);
       roles = passed (rolesRight (s .mode) (f .reads)) 13 (λ z. omega arith) (none-first (unless (rolesRight (s .mode) (f .reads)) 13) _ b);
       reads = none-first (firstRefusal (mateRefusal offset s) (f .reads)) _ d;
-      rooms = none-first (firstRefusal ((λ (x : MateRead). observedRoom s ss (shareOf (s .mode) entries) (observe offset s x))) (f .reads)) _ g;
+      rooms = none-first (firstRefusal (λ (r : MateRead). observedRoom s ss (shareOf (s .mode) entries) (observe offset s r)) (f .reads)) _ g;
       counts = passed (countable (testedBooks offset ss ranked h f)) 17 (λ z. omega arith) i;
     }
 

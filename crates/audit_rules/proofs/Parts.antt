@@ -122,22 +122,22 @@ module _ (offset : ℕ) (s : Settings) (ss : List (List ℕ)) (ranked : List ℕ
       let e = length-entries ranked (length (r .read .bases)) (observedListed s ss (observe offset s r)) in
       omega (arith, e, listed-room share (s .limit) (observedGroups s ss (observe offset s r)) z)
 
-  entries-short : (share : ℕ) (reads : List MateRead) → firstRefusal ((λ (x : MateRead). observedRoom s ss share (observe offset s x))) reads ≡ 0 → Short (4 * share) (map ((λ (x : MateRead). observedEntries s ss ranked (observe offset s x))) reads)
+  entries-short : (share : ℕ) (reads : List MateRead) → firstRefusal (λ (r : MateRead). observedRoom s ss share (observe offset s r)) reads ≡ 0 → Short (4 * share) (map (λ (r : MateRead). observedEntries s ss ranked (observe offset s r)) reads)
   entries-short share [] z = tt
   entries-short share (r ∷ rs) z = (
-    entries-fit share r (none-first (observedRoom s ss share (observe offset s r)) (firstRefusal ((λ (x : MateRead). observedRoom s ss share (observe offset s x))) rs) z),
-    entries-short share rs (none-second (observedRoom s ss share (observe offset s r)) (firstRefusal ((λ (x : MateRead). observedRoom s ss share (observe offset s x))) rs) z),
+    entries-fit share r (none-first (observedRoom s ss share (observe offset s r)) (firstRefusal (λ (r : MateRead). observedRoom s ss share (observe offset s r)) rs) z),
+    entries-short share rs (none-second (observedRoom s ss share (observe offset s r)) (firstRefusal (λ (r : MateRead). observedRoom s ss share (observe offset s r)) rs) z),
   )
 
-  module _ (reads : List MateRead) (b : List ℕ) (roles : rolesRight (s .mode) reads ≡ true) (room : firstRefusal ((λ (x : MateRead). observedRoom s ss (shareOf (s .mode) (entryCount b)) (observe offset s x))) reads ≡ 0) where
+  module _ (reads : List MateRead) (b : List ℕ) (roles : rolesRight (s .mode) reads ≡ true) (room : firstRefusal (λ (r : MateRead). observedRoom s ss (shareOf (s .mode) (entryCount b)) (observe offset s r)) reads ≡ 0) where
     abbrev width : ℕ
     width = 4 * shareOf (s .mode) (entryCount b)
 
     abbrev lists : List (List ℕ)
-    lists = map ((λ (x : MateRead). observedEntries s ss ranked (observe offset s x))) reads
+    lists = map (λ (r : MateRead). observedEntries s ss ranked (observe offset s r)) reads
 
     within : 0 + width * length lists ≤ 4 * entryCount b
-    within = rw (length-map reads ((λ (x : MateRead). observedEntries s ss ranked (observe offset s x)))) (omega (arith, shares-fit (s .mode) reads (entryCount b) roles))
+    within = rw (length-map reads (λ (r : MateRead). observedEntries s ss ranked (observe offset s r))) (omega (arith, shares-fit (s .mode) reads (entryCount b) roles))
 
     -- the entries of each read at the front of its part, which was set to zero
     pub reads-in-parts : InParts cleared width 0 lists b (inParts width 0 lists (cleared b))

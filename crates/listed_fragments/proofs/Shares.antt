@@ -70,7 +70,7 @@ module _ (offset : ℕ) (ss : List (List ℕ)) (way : Way) (ranked : List ℕ) (
   length-told = go refusal
     where
       go : (n : ℕ) → length (outcomeRows (length (x .fragment .reads)) (outcome n (testedRows offset ss ranked h (x .fragment) way))) ≡ 8 * length (x .fragment .reads)
-      go zero = length-rows-in (testedRows offset ss ranked h (x .fragment) way) ∙ ap (λ n. 8 * n) (length-map (x .fragment .reads) ((λ (x : MateRead). observedRow (h .state .settings) ss way (observe offset (h .state .settings) x))))
+      go zero = length-rows-in (testedRows offset ss ranked h (x .fragment) way) ∙ ap (λ n. 8 * n) (length-map (x .fragment .reads) (λ (r : MateRead). observedRow (h .state .settings) ss way (observe offset (h .state .settings) r)))
       go (suc n) = length-refused (suc n) (length (x .fragment .reads))
 
   -- the share stays as long as it is

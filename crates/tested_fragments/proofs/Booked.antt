@@ -87,11 +87,11 @@ module _ (offset : ℕ) (ss : List (List ℕ)) (way : Way) (ranked : List ℕ) (
     reads-seen : ReadsObserved s ss way ranked (byMode (s .mode) one two) r buffer entries
     reads-seen =
         record {
-          answer = seen .answer ∙ ap₂ outcome (unrefused ∙ sym rooms-pass) (ap (map ((λ (x : MateRead). observedRow s ss way (observe offset s x)))) reads-are ∙ sym (by-mates offset s m m′ one two refl (λ e. refl) (observedRow s ss way)));
+          answer = seen .answer ∙ ap₂ outcome (unrefused ∙ sym rooms-pass) (ap (map (λ (r : MateRead). observedRow s ss way (observe offset s r))) reads-are ∙ sym (by-mates offset s m m′ one two refl (λ e. refl) (observedRow s ss way)));
           entries =
               seen .left
               ∙ ap₂ (λ n l. entriesLeft n (inParts (4 * shareOf (s .mode) (entryCount buffer)) 0 l (cleared buffer)) buffer) (unrefused ∙ sym rooms-pass)
-              (ap (map ((λ (x : MateRead). observedEntries s ss ranked (observe offset s x)))) reads-are ∙ sym (by-mates offset s m m′ one two refl (λ e. refl) (observedEntries s ss ranked)));
+              (ap (map (λ (r : MateRead). observedEntries s ss ranked (observe offset s r))) reads-are ∙ sym (by-mates offset s m m′ one two refl (λ e. refl) (observedEntries s ss ranked)));
         }
 
     module _ (limit : limitRight (s .limit) ≡ true) (counters : CountersLent (length (h .counters .placements)) (h .counters)) (places : Ranked (length (h .counters .placements)) ranked)

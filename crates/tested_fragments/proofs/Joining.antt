@@ -63,7 +63,7 @@ module _ (offset : ℕ) (ss : List (List ℕ)) (way : Way) (ranked : List ℕ) (
 
   -- 10 and 17
   abbrev rooms : ℕ
-  rooms = firstRefusal ((λ (x : MateRead). observedRoom s ss (shareOf (s .mode) (entryCount buffer)) (observe offset s x))) (fragmentReads count m m′) orElse unless (countable (testedBooks offset ss ranked h f)) 17
+  rooms = firstRefusal (λ (r : MateRead). observedRoom s ss (shareOf (s .mode) (entryCount buffer)) (observe offset s r)) (fragmentReads count m m′) orElse unless (countable (testedBooks offset ss ranked h f)) 17
 
   -- the checks of the reads, and 17
   abbrev rest : ℕ
@@ -128,10 +128,10 @@ module _ (offset : ℕ) (ss : List (List ℕ)) (way : Way) (ranked : List ℕ) (
       -- said of the reads by mode
       abbrev Seen : List MateRead → FragmentAnswer → List ℕ → Type 0
       Seen reads r b =
-          (fragmentOutcome r ≡ outcome (refusalOf reads) (map ((λ (x : MateRead). observedRow s ss way (observe offset s x))) reads)) × (b ≡ entriesLeft (refusalOf reads) (inParts (4 * shareOf (s .mode) (entryCount buffer)) 0 (map ((λ (x : MateRead). observedEntries s ss ranked (observe offset s x))) reads) (cleared buffer)) buffer)
+          (fragmentOutcome r ≡ outcome (refusalOf reads) (map (λ (r : MateRead). observedRow s ss way (observe offset s r)) reads)) × (b ≡ entriesLeft (refusalOf reads) (inParts (4 * shareOf (s .mode) (entryCount buffer)) 0 (map (λ (r : MateRead). observedEntries s ss ranked (observe offset s r)) reads) (cleared buffer)) buffer)
         where
           refusalOf : List MateRead → ℕ
-          refusalOf ms = firstRefusal ((λ (x : MateRead). observedRoom s ss (shareOf (s .mode) (entryCount buffer)) (observe offset s x))) ms orElse unless (countable (bookedAll ranked (map (mateBooked offset s ss) ms) (heldBooks h))) 17
+          refusalOf ms = firstRefusal (λ (r : MateRead). observedRoom s ss (shareOf (s .mode) (entryCount buffer)) (observe offset s r)) ms orElse unless (countable (bookedAll ranked (map (mateBooked offset s ss) ms) (heldBooks h))) 17
 
       as-seen : (r : FragmentAnswer) (b : List ℕ) → Seen (byMode (s .mode) m m′) r b → Found r b
       as-seen r b seen =
@@ -143,7 +143,7 @@ module _ (offset : ℕ) (ss : List (List ℕ)) (way : Way) (ranked : List ℕ) (
         abbrev number : ℕ
         number = observedRefusal s ss way ranked (roleNumber (m .role)) (roleNumber (m′ .role)) one two (h .state .ledger) (h .counters) (entryCount buffer)
 
-        number-is : number ≡ (firstRefusal ((λ (x : MateRead). observedRoom s ss (shareOf (s .mode) (entryCount buffer)) (observe offset s x))) (byMode (s .mode) m m′) orElse unless (countable (bookedAll ranked (map (mateBooked offset s ss) (byMode (s .mode) m m′)) (heldBooks h))) 17)
+        number-is : number ≡ (firstRefusal (λ (r : MateRead). observedRoom s ss (shareOf (s .mode) (entryCount buffer)) (observe offset s r)) (byMode (s .mode) m m′) orElse unless (countable (bookedAll ranked (map (mateBooked offset s ss) (byMode (s .mode) m m′)) (heldBooks h))) 17)
         number-is =
             ap₂ (λ x l. x orElse unless (countable (bookedAll ranked l (heldBooks h))) 17) (rooms-same offset s m m′ one two first-is second-is (observedRoom s ss (shareOf (s .mode) (entryCount buffer)))) (booked-same offset s m m′ one two first-is second-is ss way)
 

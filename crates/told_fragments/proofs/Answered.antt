@@ -80,9 +80,9 @@ module _ (offset : ℕ) (s : Settings) (ss : List (List ℕ)) (way : Way) (share
   mate-few : (r : MateRead) → observedRoom s ss share (observe offset s r) ≡ 0 → observedRow s ss way (observe offset s r) .groups ≤ share
   mate-few r z = omega (arith, listed-room share (s .limit) (observedGroups s ss (observe offset s r)) z)
 
-  first-few : (reads : List MateRead) (x : Row) (xs : List Row) → map ((λ (x : MateRead). observedRow s ss way (observe offset s x))) reads ≡ x ∷ xs → firstRefusal ((λ (x : MateRead). observedRoom s ss share (observe offset s x))) reads ≡ 0 → x .groups ≤ share
+  first-few : (reads : List MateRead) (x : Row) (xs : List Row) → map (λ (r : MateRead). observedRow s ss way (observe offset s r)) reads ≡ x ∷ xs → firstRefusal (λ (r : MateRead). observedRoom s ss share (observe offset s r)) reads ≡ 0 → x .groups ≤ share
   first-few [] x xs e z = absurd (omega (arith, ap length e))
-  first-few (r ∷ rs) x xs e z = subst (λ (y : Row). y .groups ≤ share) (head-eq-of-cons-eq e) (mate-few r (none-first (observedRoom s ss share (observe offset s r)) (firstRefusal ((λ (x : MateRead). observedRoom s ss share (observe offset s x))) rs) z))
+  first-few (r ∷ rs) x xs e z = subst (λ (y : Row). y .groups ≤ share) (head-eq-of-cons-eq e) (mate-few r (none-first (observedRoom s ss share (observe offset s r)) (firstRefusal (λ (r : MateRead). observedRoom s ss share (observe offset s r)) rs) z))
 
 -- ---- an audited fragment, whatever was audited
 
@@ -101,7 +101,7 @@ module _ (bases baseEnds ranked ks rs os ids ends bytes : List ℕ) (head : Frag
     unrefused = outcome-accepted (testedRefusal offset ss ranked h f (entryCount entries)) (testedRows offset ss ranked h f way) rows (sym (seen .answer) ∙ told)
 
     as-many : length (f .reads) ≡ length rows
-    as-many = sym (length-map (f .reads) ((λ (x : MateRead). observedRow (h .state .settings) ss way (observe offset (h .state .settings) x)))) ∙ ap length (unrefused .1)
+    as-many = sym (length-map (f .reads) (λ (r : MateRead). observedRow (h .state .settings) ss way (observe offset (h .state .settings) r))) ∙ ap length (unrefused .1)
 
   -- accepted, as its reads were lent
   accepted-lent : (ordinal count : ℕ) (m m′ : MateRead) (r : FragmentAnswer) → Seen (fragmentOf ordinal count m m′) r → OneOf (1 ∷ 2 ∷ []) (tagOf the-type r) → AnswerLent ids ends entries′ (4 * share) r
