@@ -4,9 +4,9 @@ ghost use Rattle.catalogue.specs.Catalogue.{lentCatalogue};
 ghost use Rattle.audit_rules.specs.Settings.{auditSeed, auditOffset};
 ghost use Rattle.audit_rules.specs.Opening.{none};
 ghost use Rattle.audit_rules.specs.Calls.{lentHeld, lentIndex, Finishes};
-use crate::AUDIT_OFFSET;
-use crate::AUDIT_SEED;
 use audit_rules::calls::Finish;
+use audit_rules::settings::AUDIT_OFFSET;
+use audit_rules::settings::AUDIT_SEED;
 use audit_rules::settings::AuditState;
 use finishing::finish_audit;
 

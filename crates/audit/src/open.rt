@@ -5,9 +5,9 @@ ghost use Rattle.ledger.specs.Booking.{lentCounters, leftCounters};
 ghost use Rattle.audit_rules.specs.Settings.{auditSeed, auditOffset};
 ghost use Rattle.audit_rules.specs.Opening.{none};
 ghost use Rattle.audit_rules.specs.Calls.{lentIndex, Opens};
-use crate::AUDIT_OFFSET;
-use crate::AUDIT_SEED;
 use audit_rules::calls::Opening;
+use audit_rules::settings::AUDIT_OFFSET;
+use audit_rules::settings::AUDIT_SEED;
 use audit_rules::settings::Settings;
 use fresh::open_audit;
 

@@ -122,7 +122,7 @@ module _ (offset : ℕ) (s : Settings) (ss : List (List ℕ)) (ranked : List ℕ
       let e = length-entries ranked (length (r .read .bases)) (observedListed s ss (observe offset s r)) in
       omega (arith, e, listed-room share (s .limit) (observedGroups s ss (observe offset s r)) z)
 
-  entries-short : (share : ℕ) (reads : List MateRead) → firstRefusal (λ (r : MateRead). observedRoom s ss share (observe offset s r)) reads ≡ 0 → Short (4 * share) (map (λ (r : MateRead). observedEntries s ss ranked (observe offset s r)) reads)
+  pub entries-short : (share : ℕ) (reads : List MateRead) → firstRefusal (λ (r : MateRead). observedRoom s ss share (observe offset s r)) reads ≡ 0 → Short (4 * share) (map (λ (r : MateRead). observedEntries s ss ranked (observe offset s r)) reads)
   entries-short share [] z = tt
   entries-short share (r ∷ rs) z = (
     entries-fit share r (none-first (observedRoom s ss share (observe offset s r)) (firstRefusal (λ (r : MateRead). observedRoom s ss share (observe offset s r)) rs) z),

@@ -1,6 +1,12 @@
 // The settings and the state of an audit.
 use ledger::Ledger;
 
+// The length of a seed.
+pub const AUDIT_SEED: usize = 15;
+
+// The quality byte that stands for 0.
+pub const AUDIT_OFFSET: u8 = 33;
+
 // The layout of all fragments of a run.
 pub enum AuditInputMode {
     SingleEnd,

@@ -3,15 +3,15 @@
 use mathlib.Core.Path.{_≡_, refl, ap, _∙_}
 use mathlib.Core.Bool.{true, false, cond, _||_}
 use mathlib.Core.List.{List, [], _∷_, _++_}
-use Prim.Native.Nat.{ℕ, zero, suc, _*_}
-use lib.ListN.{drop, replicate}
+use Prim.Native.Nat.{ℕ, zero, suc}
+use lib.ListN.{drop}
 use lib.Dec.{eqb}
 use borrow.Author.Tests.{ne-eqb}
-use Rattle.catalogue.specs.Catalogue.{Catalogue, names}
+use Rattle.catalogue.specs.Catalogue.{Catalogue}
 use Rattle.audit_rules.specs.declared.settings.Settings.{Settings}
 use Rattle.audit_rules.specs.Settings.{Held, auditSeed, auditOffset}
-use Rattle.audit_rules.specs.Opening.{openingRefusal, started}
-use Rattle.audit_rules.specs.Fragment.{Fragment, shareOf, fragmentRefusal, fragmentRows, fragmentAccepted, fragmentWritten}
+use Rattle.audit_rules.specs.Opening.{openingRefusal, started, wayOf}
+use Rattle.audit_rules.specs.Fragment.{Fragment, fragmentRefusal, fragmentAccepted}
 use Rattle.audit_rules.specs.Sheet.{finishRefusal}
 use Rattle.lines.specs.Lines.{refusalLine}
 use Rattle.stream.specs.Operands.{Parsed, wrong}
@@ -104,9 +104,7 @@ module _ (c : Catalogue) (h : Held) where
 
   -- its lines
   abbrev pub linesOf : Fragment → List ℕ
-  linesOf f =
-      fragmentLines (names c) (f .ordinal) (4 * shareOf (h .state .settings .mode) streamEntries) (f .reads) (fragmentRows auditSeed auditOffset c (lentOf c) h f)
-      (fragmentWritten auditOffset c h f (replicate (4 * streamEntries) 0))
+  linesOf f = fragmentLines auditOffset c (h .state .settings) (wayOf auditSeed (lentOf c)) (f .ordinal) (f .reads)
 
   module _ (bytes : List ℕ) where
     pub fragment-accepted : (f : Fragment) (end : ℕ) → Read fragmentIn bytes f end → fragmentRefusal auditSeed auditOffset c (lentOf c) h f streamEntries ≡ 0

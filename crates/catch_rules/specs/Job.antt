@@ -1,16 +1,16 @@
 -- `catch` on paper: what it writes for every list of bytes (REFERENCE.md, "Stream").
 use mathlib.Core.Bool.{cond, _||_}
 use mathlib.Core.List.{List, [], _∷_, _++_}
-use Prim.Native.Nat.{ℕ, zero, suc, _*_}
-use lib.ListN.{length, replicate}
+use Prim.Native.Nat.{ℕ, zero, suc}
+use lib.ListN.{length}
 use lib.Dec.{eqb}
-use Rattle.catalogue.specs.Catalogue.{Catalogue, names}
+use Rattle.catalogue.specs.Catalogue.{Catalogue}
 use Rattle.seeds.specs.Seeds.{keysOf, ranksOf, positionsOf}
 use Rattle.index.specs.Index.{index}
 use Rattle.audit_rules.specs.declared.settings.Settings.{Settings}
 use Rattle.audit_rules.specs.Settings.{Held, auditSeed, auditOffset}
-use Rattle.audit_rules.specs.Opening.{IndexLent, columns, openingRefusal, started}
-use Rattle.audit_rules.specs.Fragment.{Fragment, shareOf, fragmentRefusal, fragmentRows, fragmentAccepted, fragmentWritten}
+use Rattle.audit_rules.specs.Opening.{IndexLent, columns, openingRefusal, started, wayOf}
+use Rattle.audit_rules.specs.Fragment.{Fragment, fragmentRefusal, fragmentAccepted}
 use Rattle.audit_rules.specs.Sheet.{finishRefusal}
 use Rattle.lines.specs.Lines.{refusalLine}
 use Rattle.stream.specs.Operands.{Parsed, parsed, wrong}
@@ -60,10 +60,7 @@ begin (code ∷ bytes) = cond (eqb code 1) (whenRead (settingsIn bytes) λ s. go
 -- a whole fragment is audited: its lines, where it is not refused
 abbrev pub audited : ℕ → Catalogue → Held → Fragment → List ℕ → Step
 audited zero c h f rest =
-    goes
-    (fragmentLines (names c) (f .ordinal) (4 * shareOf (h .state .settings .mode) streamEntries) (f .reads) (fragmentRows auditSeed auditOffset c (lentOf c) h f)
-    (fragmentWritten auditOffset c h f (replicate (4 * streamEntries) 0)))
-    (running c (fragmentAccepted auditOffset c h f)) rest
+    goes (fragmentLines auditOffset c (h .state .settings) (wayOf auditSeed (lentOf c)) (f .ordinal) (f .reads)) (running c (fragmentAccepted auditOffset c h f)) rest
 audited (suc n) c h f rest = refuses (suc n)
 
 -- 05 with nothing behind it: the sheet, where `finish` is not refused

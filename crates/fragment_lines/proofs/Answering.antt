@@ -13,8 +13,7 @@ use Rattle.audit_rules.specs.declared.calls.FragmentAnswer.the-variants as frag
 use Rattle.audit_rules.specs.declared.calls.Mates.{Mates}
 use Rattle.texts.specs.Writing.{AddsAtMost}
 use Rattle.texts.proofs.Adding.{adds-both}
-use Rattle.sheet_lines.specs.Sheets.{readLines}
-use Rattle.sheet_lines.specs.Lent.{EntriesLent}
+use Rattle.sheet_lines.specs.Lent.{readTold, EntriesLent}
 use Rattle.fragment_lines.specs.Answer.{answerLines, answerRoom, AnswerLent}
 
 -- bytes behind bytes
@@ -50,5 +49,5 @@ pub part-lent : (ids ends entries : List ℕ) (w n : ℕ) → EntriesLent ids en
 part-lent ids ends entries w n h = subst (λ l. EntriesLent ids ends l n) (sym (part-behind entries w)) h
 
 pub part-lines : (ns : List (List ℕ)) (ordinal role : ℕ) (row : Row) (entries : List ℕ) (w i : ℕ) (out : List ℕ) (at : ℕ) (out′ : List ℕ) (r : ℕ)
-    → AddsAtMost i (readLines ns ordinal role row (take (length entries - w) (drop w entries))) out at out′ r → AddsAtMost i (readLines ns ordinal role row (drop w entries)) out at out′ r
-part-lines ns ordinal role row entries w i out at out′ r h = subst (λ l. AddsAtMost i (readLines ns ordinal role row l) out at out′ r) (part-behind entries w) h
+    → AddsAtMost i (readTold ns ordinal role row (take (length entries - w) (drop w entries))) out at out′ r → AddsAtMost i (readTold ns ordinal role row (drop w entries)) out at out′ r
+part-lines ns ordinal role row entries w i out at out′ r h = subst (λ l. AddsAtMost i (readTold ns ordinal role row l) out at out′ r) (part-behind entries w) h

@@ -7,15 +7,14 @@ use Rattle.audit_rules.specs.declared.calls.FragmentAnswer.{FragmentAnswer}
 use Rattle.audit_rules.specs.declared.calls.FragmentAnswer.the-variants as fragments
 use Rattle.audit_rules.specs.Calls.{mappingRow}
 use Rattle.lines.specs.Lines.{lineRoom, refusalLine}
-use Rattle.sheet_lines.specs.Sheets.{readLines}
-use Rattle.sheet_lines.specs.Lent.{namedRoom, EntriesLent}
+use Rattle.sheet_lines.specs.Lent.{namedRoom, readTold, EntriesLent}
 
 -- its refusal, or the lines of each read, with the numbers of their roles; the groups of the second stand behind `width` numbers of the entries
 abbrev pub answerLines : List (List ℕ) → ℕ → ℕ → ℕ → ℕ → FragmentAnswer → List ℕ → List ℕ
 answerLines ns ordinal first second width (fragments.Refused n) entries = refusalLine n
-answerLines ns ordinal first second width (fragments.Single m) entries = readLines ns ordinal first (mappingRow m) entries
+answerLines ns ordinal first second width (fragments.Single m) entries = readTold ns ordinal first (mappingRow m) entries
 answerLines ns ordinal first second width (fragments.Paired m) entries =
-    readLines ns ordinal first (mappingRow (m .first)) entries ++ readLines ns ordinal second (mappingRow (m .second)) (drop width entries)
+    readTold ns ordinal first (mappingRow (m .first)) entries ++ readTold ns ordinal second (mappingRow (m .second)) (drop width entries)
 
 -- no lines of a read are longer
 abbrev pub readRoom : Mapping → ℕ

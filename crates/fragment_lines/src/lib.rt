@@ -6,8 +6,7 @@ ghost use Rattle.names.specs.Lent.{lentCut};
 ghost use Rattle.audit_rules.specs.Settings.{roleNumber};
 ghost use Rattle.audit_rules.specs.Calls.{mappingRow};
 ghost use Rattle.texts.specs.Writing.{AddsAtMost};
-ghost use Rattle.sheet_lines.specs.Sheets.{readLines};
-ghost use Rattle.sheet_lines.specs.Lent.{EntriesLent};
+ghost use Rattle.sheet_lines.specs.Lent.{readTold, EntriesLent};
 ghost use Rattle.fragment_lines.specs.Answer.{answerLines, readRoom, answerRoom, AnswerLent};
 use answers::answer::Mapping;
 use audit_rules::calls::FragmentAnswer;
@@ -28,7 +27,7 @@ fn put_mate(
     mapping: Mapping,
 ) -> usize
     requires { ⌜ EntriesLent (now identifiers) (now ends) (now entries) (mapping .groups) × (at + readRoom mapping ≤ length (now out)) ⌝ }
-    ensures { λ r. ⌜ AddsAtMost (readRoom mapping) (readLines (lentCut identifiers ends) ordinal (roleNumber role) (mappingRow mapping) (old entries)) (old out) at (new out) r ⌝ }
+    ensures { λ r. ⌜ AddsAtMost (readRoom mapping) (readTold (lentCut identifiers ends) ordinal (roleNumber role) (mappingRow mapping) (old entries)) (old out) at (new out) r ⌝ }
 {
     let a = put_read(out, at, ordinal, role, mapping);
     put_groups(out, a, identifiers, ends, entries, mapping.groups)

@@ -3,6 +3,8 @@ ghost use Rattle.promises.specs.Slice.{new};
 ghost use Rattle.catalogue.specs.Catalogue.{lentCatalogue};
 ghost use Rattle.ledger.specs.Booking.{lentCounters};
 ghost use Rattle.job_opening.specs.Opened.{JobRoom, JobOpens};
+use audit_rules::settings::AUDIT_OFFSET;
+use audit_rules::settings::AUDIT_SEED;
 use audit_rules::settings::Settings;
 use building::build_index;
 use catalogue::ranks::Ranking;
@@ -19,11 +21,6 @@ pub enum JobOpening {
     Refused(u64),
     Opened(Indexed),
 }
-
-// The length of a seed, and the quality byte that stands for 0.
-const SEED: usize = 15;
-
-const OFFSET: u8 = 33;
 
 // Opens a job: refused, or its targets ranked and their index built.
 pub fn open_job(
@@ -61,16 +58,16 @@ pub fn open_job(
         base_ends,
         marks,
         false,
-        SEED,
-        OFFSET,
+        AUDIT_SEED,
+        AUDIT_OFFSET,
         settings,
     );
     match ranking {
         Ranking::Refused(n) => JobOpening::Refused(n),
         Ranking::Ranked(k) => {
             let places = &ranked[..k];
-            let n = count_postings(bases, base_ends, places, SEED);
-            build_index(keys, ranks, positions, bases, base_ends, places, SEED);
+            let n = count_postings(bases, base_ends, places, AUDIT_SEED);
+            build_index(keys, ranks, positions, bases, base_ends, places, AUDIT_SEED);
             JobOpening::Opened(Indexed {
                 ranked: k,
                 postings: n,

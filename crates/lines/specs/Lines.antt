@@ -24,11 +24,6 @@ readLine ordinal role r = line (text "R" ∷ decimal ordinal ∷ roleWord role �
 abbrev pub groupLine : List ℕ → ℕ → ℕ → ℕ → List ℕ
 groupLine name start end strand = line (text "G" ∷ name ∷ decimal start ∷ decimal end ∷ strandWord strand ∷ [])
 
--- those of the first n entries of a list, each the place of a target, start, end and strand
-abbrev pub groupLines : List (List ℕ) → ℕ → List ℕ → List ℕ
-groupLines names zero entries = []
-groupLines names (suc n) entries = groupLine (getD names (getD entries 0 0) []) (getD entries 1 0) (getD entries 2 0) (getD entries 3 0) ++ groupLines names n (drop 4 entries)
-
 -- S role, state, count
 abbrev pub countLine : ℕ → ℕ → ℕ → List ℕ
 countLine role state count = line (text "S" ∷ roleWord role ∷ decimal state ∷ decimal count ∷ [])

@@ -1,29 +1,38 @@
 -- What a step of a job that was opened does: a fragment, or the end.
 -- Assumes nothing.
-use mathlib.Core.Path.{_≡_, sym, ap, subst, _∙_}
+use mathlib.Core.Path.{_≡_, sym, ap, ap₂, subst, subst₂, _∙_}
 use mathlib.Core.List.{List, [], _∷_, _++_, map, append-nil}
-use Prim.Native.Nat.{ℕ, zero, suc, _+_, _*_}
+use Prim.Native.Nat.{ℕ, zero, suc, _+_, _*_, _≤_}
 use native.Mathlib.Omega.{arith}
-use lib.ListN.{length, drop, replicate, length-replicate}
-use lib.Seq.{drop-length}
+use lib.ListN.{length, drop}
 use Rattle.promises.specs.Refusal.{Outcome, refused, accepted, ifPassed}
 use Rattle.promises.proofs.Refusing.{outcome-accepted, outcome-number}
-use Rattle.catalogue.specs.Catalogue.{Catalogue, names}
+use Rattle.catalogue.specs.Catalogue.{Catalogue, names, suppliedPlaces}
+use Rattle.index.specs.Index.{mappedSequences}
+use Rattle.seeds.specs.Seeds.{placed}
+use Rattle.index_search.specs.Work.{Way}
+use Rattle.lists.specs.Cut.{window}
 use Rattle.scan.specs.Entries.{entryCount, cleared}
 use Rattle.answers.specs.Answer.{Row}
 use Rattle.ledger.specs.Booking.{Counters}
 use Rattle.audit_rules.specs.declared.calls.FragmentAnswer.{FragmentAnswer}
 use Rattle.audit_rules.specs.declared.calls.FragmentAnswer.the-variants as fragments
 use Rattle.audit_rules.specs.declared.calls.FragmentAudit.{FragmentAudit}
+use Rattle.audit_rules.specs.declared.settings.Settings.{Settings}
+use Rattle.audit_rules.specs.Opening.{wayOf}
 use Rattle.audit_rules.specs.Settings.{Held, auditSeed, auditOffset, roleNumber}
-use Rattle.audit_rules.specs.Observing.{MateRead}
-use Rattle.audit_rules.specs.Fragment.{Fragment, shareOf, entriesLeft, fragmentRefusal, fragmentRows, fragmentAccepted, fragmentWritten}
+use Rattle.audit_rules.specs.Observing.{MateRead, observe, observedListed, observedEntries, observedRow}
+use Rattle.audit_rules.specs.Fragment.{Fragment, shareOf, entriesLeft, fragmentRefusal, fragmentAccepted, fragmentWritten}
 use Rattle.audit_rules.specs.Calls.{fragmentOutcome, mappingRow, fragmentReads, Audits}
 use Rattle.audit_rules.proofs.Booked.{refused-holds}
+use Rattle.audit_rules.proofs.Parts.{Short, InParts, entries-short, reads-in-parts}
+use Rattle.audit_rules.proofs.Checking.{fragment-checked}
 use Rattle.stream.specs.Commands.{fragmentIn}
 use Rattle.stream.specs.Telling.{Read}
-use Rattle.lines.specs.Lines.{refusalLine}
+use Rattle.lines.specs.Lines.{readLine, refusalLine}
 use Rattle.sheet_lines.specs.Sheets.{readLines, fragmentLines}
+use Rattle.sheet_lines.specs.Lent.{readTold}
+use Rattle.sheet_lines.proofs.Grouping.{part-lines}
 use Rattle.fragment_lines.specs.Answer.{answerLines}
 use Rattle.fragment_stream.specs.declared.FragmentHead.{FragmentHead}
 use Rattle.catch_rules.specs.Job.{lentOf, streamEntries, running}
@@ -48,41 +57,43 @@ abbrev others : List Row → List Row
 others [] = []
 others (x ∷ xs) = xs
 
-module _ (ns : List (List ℕ)) (ordinal width : ℕ) (first second : MateRead) (row : MateRead → Row) (entries : List ℕ) where
-  -- the lines of an answer are those of the reads that it answers for
-  accepted-lines : (count : ℕ) (answer : FragmentAnswer) → fragmentOutcome answer ≡ accepted (map row (fragmentReads count first second))
-      → answerLines ns ordinal (roleNumber (first .role)) (roleNumber (second .role)) width answer entries ≡ fragmentLines ns ordinal width (fragmentReads count first second) (map row (fragmentReads count first second)) entries
-  accepted-lines count (fragments.Refused n) e = absurd (let z : _≡_ {A = ℕ} 0 1 = cc in omega arith)
-  accepted-lines zero (fragments.Single m) e = absurd (let z = ap (λ o. length (rowsIn o)) e in omega arith)
-  accepted-lines (suc zero) (fragments.Single m) e =
-      ap (λ r. readLines ns ordinal (roleNumber (first .role)) r entries) (ap (λ o. firstOr (mappingRow m) (rowsIn o)) e) ∙ sym (append-nil _)
-  accepted-lines (suc (suc n)) (fragments.Single m) e = absurd (let z = ap (λ o. length (rowsIn o)) e in omega arith)
-  accepted-lines zero (fragments.Paired m) e = absurd (let z = ap (λ o. length (rowsIn o)) e in omega arith)
-  accepted-lines (suc zero) (fragments.Paired m) e = absurd (let z = ap (λ o. length (rowsIn o)) e in omega arith)
-  accepted-lines (suc (suc zero)) (fragments.Paired m) e =
-      ap (λ r. readLines ns ordinal (roleNumber (first .role)) r entries ++ readLines ns ordinal (roleNumber (second .role)) (mappingRow (m .second)) (drop width entries)) (ap (λ o. firstOr (mappingRow (m .first)) (rowsIn o)) e)
-      ∙ ap (λ r. readLines ns ordinal (roleNumber (first .role)) (row first) entries ++ r) (ap (λ r. readLines ns ordinal (roleNumber (second .role)) r (drop width entries)) (ap (λ o. firstOr (mappingRow (m .second)) (others (rowsIn o))) e) ∙ sym (append-nil _))
-  accepted-lines (suc (suc (suc n))) (fragments.Paired m) e = absurd (let z = ap (λ o. length (rowsIn o)) e in omega arith)
+module _ (offset : ℕ) (c : Catalogue) (s : Settings) (way : Way) (ordinal width : ℕ) (before entries : List ℕ) where
+  abbrev ns : List (List ℕ)
+  ns = names c
 
--- ---- entries as they were before make no difference
+  abbrev rowOf : MateRead → Row
+  rowOf r = observedRow s (mappedSequences c) way (observe offset s r)
+
+  abbrev entriesIn : MateRead → List ℕ
+  entriesIn r = observedEntries s (mappedSequences c) (suppliedPlaces c) (observe offset s r)
+
+  -- the lines of a read whose groups stand at the front of its part
+  read-lines : (m : MateRead) (from : ℕ) → length (entriesIn m) ≤ width → window entries from width ≡ placed 0 (entriesIn m) (cleared (window before from width))
+      → readTold ns ordinal (roleNumber (m .role)) (rowOf m) (drop from entries) ≡ readLines offset c s way ordinal m
+  read-lines m from fits part =
+      ap (λ l. readLine ordinal (roleNumber (m .role)) (rowOf m) ++ l)
+      (part-lines ns (suppliedPlaces c) (length (m .read .bases)) (observedListed s (mappedSequences c) (observe offset s m)) width (drop from entries) _ part)
+
+  -- the lines of an answer are those of the reads that it answers for
+  accepted-lines : (first second : MateRead) (count : ℕ) (answer : FragmentAnswer) → fragmentOutcome answer ≡ accepted (map rowOf (fragmentReads count first second))
+      → Short width (map entriesIn (fragmentReads count first second)) → InParts cleared width 0 (map entriesIn (fragmentReads count first second)) before entries
+      → answerLines ns ordinal (roleNumber (first .role)) (roleNumber (second .role)) width answer entries ≡ fragmentLines offset c s way ordinal (fragmentReads count first second)
+  accepted-lines first second count (fragments.Refused n) e fits parts = absurd (let z : _≡_ {A = ℕ} 0 1 = cc in omega arith)
+  accepted-lines first second zero (fragments.Single m) e fits parts = absurd (let z = ap (λ o. length (rowsIn o)) e in omega arith)
+  accepted-lines first second (suc zero) (fragments.Single m) e fits parts =
+      ap (λ r. readTold ns ordinal (roleNumber (first .role)) r entries) (ap (λ o. firstOr (mappingRow m) (rowsIn o)) e) ∙ read-lines first 0 (fits .0) (parts .0) ∙ sym (append-nil _)
+  accepted-lines first second (suc (suc n)) (fragments.Single m) e fits parts = absurd (let z = ap (λ o. length (rowsIn o)) e in omega arith)
+  accepted-lines first second zero (fragments.Paired m) e fits parts = absurd (let z = ap (λ o. length (rowsIn o)) e in omega arith)
+  accepted-lines first second (suc zero) (fragments.Paired m) e fits parts = absurd (let z = ap (λ o. length (rowsIn o)) e in omega arith)
+  accepted-lines first second (suc (suc zero)) (fragments.Paired m) e fits parts =
+      let behind : 0 + width ≡ width = omega arith in
+      ap₂ (λ a b. a ++ b)
+      (ap (λ r. readTold ns ordinal (roleNumber (first .role)) r entries) (ap (λ o. firstOr (mappingRow (m .first)) (rowsIn o)) e) ∙ read-lines first 0 (fits .0) (parts .0))
+      (ap (λ r. readTold ns ordinal (roleNumber (second .role)) r (drop width entries)) (ap (λ o. firstOr (mappingRow (m .second)) (others (rowsIn o))) e) ∙ read-lines second width (fits .1 .0) (subst (λ n. window entries n width ≡ placed 0 (entriesIn second) (cleared (window before n width))) behind (parts .1 .0)) ∙ sym (append-nil _))
+  accepted-lines first second (suc (suc (suc n))) (fragments.Paired m) e fits parts = absurd (let z = ap (λ o. length (rowsIn o)) e in omega arith)
 
 count-of : (n : ℕ) (b : List ℕ) → length b ≡ 4 * n → entryCount b ≡ n
 count-of n b e = omega (arith, e)
-
-abbrev zeros : ℕ → List ℕ
-zeros n = replicate n 0
-
-cleared-whole : (n : ℕ) (b : List ℕ) → length b ≡ 4 * n → cleared b ≡ zeros (4 * n)
-cleared-whole n b e =
-    let m : 0 + length (zeros (4 * n)) ≡ length b = omega (arith, e, length-replicate {A = ℕ} (4 * n) 0) in
-    ap (λ k. zeros (4 * k) ++ drop (0 + length (zeros (4 * k))) b) (count-of n b e)
-    ∙ ap (λ k. zeros (4 * n) ++ drop k b) m
-    ∙ ap (λ l. zeros (4 * n) ++ l) (drop-length b)
-    ∙ append-nil (zeros (4 * n))
-
-module _ (c : Catalogue) (h : Held) (f : Fragment) where
-  written-anew : (n : ℕ) (b d : List ℕ) → length b ≡ 4 * n → length d ≡ 4 * n → fragmentWritten auditOffset c h f b ≡ fragmentWritten auditOffset c h f d
-  written-anew n b d e g = rw (cleared-whole n b e, cleared-whole n d g, count-of n b e, count-of n d g)
 
 -- ---- a fragment
 
@@ -113,11 +124,16 @@ module _ (c : Catalogue) (ranked ks rs os : List ℕ) (h : Held) (entries : List
   -- accepted, its lines are written and it is booked
   pub fragment-goes : (rows : List Row) → fragmentOutcome (a .answer) ≡ accepted rows → Goes (running c h) (3 ∷ bytes) lines (running c after) (drop (head .end) bytes) × Passes c after
   fragment-goes rows told =
+      let s : Settings = h .state .settings in
       let w = outcome-accepted (fragmentRefusal auditSeed auditOffset c (lentOf c) h f (entryCount entries)) _ rows (sym (audits .answer) ∙ told) in
       let booked : after ≡ fragmentAccepted auditOffset c h f = audits .held ∙ ap (λ n. ifPassed n (fragmentAccepted auditOffset c h f) h) (w .0) in
-      let left : entries′ ≡ fragmentWritten auditOffset c h f (replicate (4 * streamEntries) 0) =
-      audits .left ∙ ap (λ n. entriesLeft n (fragmentWritten auditOffset c h f entries) entries) (w .0) ∙ written-anew c h f streamEntries entries (replicate (4 * streamEntries) 0) (lent .whole) (length-replicate {A = ℕ} (4 * streamEntries) 0) in
+      let checked = fragment-checked auditSeed auditOffset c (lentOf c) h f (entryCount entries) (w .0) .own in
+      let share : shareOf (s .mode) (entryCount entries) ≡ shareOf (s .mode) streamEntries = ap (shareOf (s .mode)) (count-of streamEntries entries (lent .whole)) in
+      let left : entries′ ≡ fragmentWritten auditOffset c h f entries = audits .left ∙ ap (λ n. entriesLeft n (fragmentWritten auditOffset c h f entries) entries) (w .0) in
+      let fits = entries-short auditOffset s (mappedSequences c) (suppliedPlaces c) (shareOf (s .mode) (entryCount entries)) (f .reads) (checked .rooms) in
+      let parts = reads-in-parts auditOffset s (mappedSequences c) (suppliedPlaces c) (f .reads) entries (checked .roles) (checked .rooms) in
       let text : lines ≡ linesOf c h f =
-      accepted-lines (names c) (head .ordinal) (4 * shareOf (h .state .settings .mode) streamEntries) _ _ _ entries′ (head .count) (a .answer) (told ∙ ap accepted (sym (w .1)))
-      ∙ ap (fragmentLines (names c) (head .ordinal) (4 * shareOf (h .state .settings .mode) streamEntries) (f .reads) (fragmentRows auditSeed auditOffset c (lentOf c) h f)) left in
+      accepted-lines auditOffset c s (wayOf auditSeed (lentOf c)) (head .ordinal) (4 * shareOf (s .mode) streamEntries) entries entries′ _ _ (head .count) (a .answer) (told ∙ ap accepted (sym (w .1)))
+      (subst (λ n. Short (4 * n) (map (entriesIn auditOffset c s (wayOf auditSeed (lentOf c)) (head .ordinal) 0 [] []) (f .reads))) share fits)
+      (subst₂ (λ n b. InParts cleared (4 * n) 0 (map (entriesIn auditOffset c s (wayOf auditSeed (lentOf c)) (head .ordinal) 0 [] []) (f .reads)) entries b) share (sym left) parts) in
       (rw (booked, text) (fragment-accepted c h bytes f (head .end) read (sym refusal-is ∙ w .0)), subst (Passes c) (sym booked) (accepted-passes c h (lent .passes) f))

@@ -1,16 +1,17 @@
 -- What the slices of a call hold where the lines of groups, counts and targets are written (REFERENCE.md, "Lines").
 use mathlib.Core.List.{List, [], _++_}
 use Prim.Native.Nat.{ℕ, zero, suc, _+_, _*_, _≤_, _<_}
-use lib.ListN.{length, getD}
+use lib.ListN.{length, getD, drop}
 use lib.Dec.{eqb}
 use Rattle.lists.specs.Cut.{cut}
 use Rattle.names.specs.Lent.{EndsRight}
 use Rattle.catalogue.specs.Catalogue.{maxIdentifier}
+use Rattle.answers.specs.Answer.{Row}
 use Rattle.ledger.specs.Booking.{Counters}
 use Rattle.audit_rules.specs.declared.sheet.Status.{Status}
 use Rattle.audit_rules.specs.declared.sheet.Sheet.{Sheet}
 use Rattle.audit_rules.specs.Sheet.{totalsOf, rowShown, countsShown}
-use Rattle.lines.specs.Lines.{lineRoom, groupLine, targetLine, runLine}
+use Rattle.lines.specs.Lines.{lineRoom, readLine, groupLine, targetLine, runLine}
 use Rattle.sheet_lines.specs.Sheets.{countLines}
 
 -- no line is longer
@@ -34,6 +35,15 @@ pub record ShortNames (identifiers ends : List ℕ) : Type 0 where
 -- G for the entry with a number: four numbers, the place of a target, start, end and strand
 abbrev pub entryLine : List (List ℕ) → List ℕ → ℕ → List ℕ
 entryLine names entries i = groupLine (getD names (getD entries (i * 4) 0) []) (getD entries (i * 4 + 1) 0) (getD entries (i * 4 + 2) 0) (getD entries (i * 4 + 3) 0)
+
+-- those of the first n
+abbrev pub entryLines : List (List ℕ) → ℕ → List ℕ → List ℕ
+entryLines names zero entries = []
+entryLines names (suc n) entries = entryLine names entries 0 ++ entryLines names n (drop 4 entries)
+
+-- R for a read with the number of its role, and G for its groups, which stand at the front of the entries
+abbrev pub readTold : List (List ℕ) → ℕ → ℕ → Row → List ℕ → List ℕ
+readTold names ordinal role r entries = readLine ordinal role r ++ entryLines names (r .groups) entries
 
 -- the entry is there, and its target has a name
 pub record EntryLent (identifiers ends entries : List ℕ) (i : ℕ) : Type 0 where

@@ -1,28 +1,39 @@
 -- What `catch` writes of a fragment and of a finished run (REFERENCE.md, "Lines").
 use mathlib.Core.List.{List, [], _∷_, _++_}
-use Prim.Native.Nat.{ℕ}
-use lib.ListN.{drop}
+use Prim.Native.Nat.{ℕ, _+_}
+use lib.ListN.{length, getD}
 use Rattle.lists.specs.Triple.{Triple}
-use Rattle.catalogue.specs.Catalogue.{Catalogue, Target, targets}
-use Rattle.answers.specs.Answer.{Row}
+use Rattle.catalogue.specs.Catalogue.{Catalogue, Target, targets, names, suppliedPlaces}
+use Rattle.index.specs.Index.{mappedSequences}
+use Rattle.places.specs.Place.{Place}
+use Rattle.index_search.specs.Work.{Way}
 use Rattle.ledger.specs.Booking.{Counters}
+use Rattle.audit_rules.specs.declared.settings.Settings.{Settings}
 use Rattle.audit_rules.specs.declared.sheet.Sheet.{Sheet}
 use Rattle.audit_rules.specs.Settings.{Held, roleNumber}
-use Rattle.audit_rules.specs.Observing.{MateRead}
+use Rattle.audit_rules.specs.Observing.{MateRead, observe, observedListed, observedRow}
 use Rattle.audit_rules.specs.Sheet.{sheetOf, countsShown, targetShown}
-use Rattle.lines.specs.Lines.{readLine, groupLines, countLine, targetLine, runLine}
+use Rattle.lines.specs.Lines.{readLine, groupLine, countLine, targetLine, runLine}
 
 -- ---- an accepted fragment
 
--- a read with the number of its role: R, and G for each of its groups, which stand at the front of its part of the entries
-abbrev pub readLines : List (List ℕ) → ℕ → ℕ → Row → List ℕ → List ℕ
-readLines ns ordinal role r entries = readLine ordinal role r ++ groupLines ns (r .groups) entries
+-- G for each group of a read of n bases; `ranked` holds the supplied place of each rank
+abbrev pub groupLines : List (List ℕ) → List ℕ → ℕ → List Place → List ℕ
+groupLines ns ranked n [] = []
+groupLines ns ranked n (p ∷ ps) = groupLine (getD ns (getD ranked (p .rank) 0) []) (p .start) (p .start + n) (p .strand) ++ groupLines ns ranked n ps
 
--- one read after the other, each with a part of `width` numbers
-abbrev pub fragmentLines : List (List ℕ) → ℕ → ℕ → List MateRead → List Row → List ℕ → List ℕ
-fragmentLines ns ordinal width [] rows entries = []
-fragmentLines ns ordinal width (m ∷ ms) [] entries = []
-fragmentLines ns ordinal width (m ∷ ms) (r ∷ rows) entries = readLines ns ordinal (roleNumber (m .role)) r entries ++ fragmentLines ns ordinal width ms rows (drop width entries)
+-- a fragment with this ordinal, its reads searched in some way
+module _ (offset : ℕ) (c : Catalogue) (s : Settings) (way : Way) (ordinal : ℕ) where
+  -- a read: R, and G for each of its listed groups
+  abbrev pub readLines : MateRead → List ℕ
+  readLines m =
+      readLine ordinal (roleNumber (m .role)) (observedRow s (mappedSequences c) way (observe offset s m))
+      ++ groupLines (names c) (suppliedPlaces c) (length (m .read .bases)) (observedListed s (mappedSequences c) (observe offset s m))
+
+  -- one read after the other
+  abbrev pub fragmentLines : List MateRead → List ℕ
+  fragmentLines [] = []
+  fragmentLines (m ∷ ms) = readLines m ++ fragmentLines ms
 
 -- ---- a finished run
 

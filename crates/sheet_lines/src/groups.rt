@@ -4,8 +4,7 @@ ghost use lib.ListN.{length};
 ghost use Rattle.promises.specs.Slice.{old, new};
 ghost use Rattle.names.specs.Lent.{lentCut};
 ghost use Rattle.texts.specs.Writing.{AddsAtMost};
-ghost use Rattle.lines.specs.Lines.{groupLines};
-ghost use Rattle.sheet_lines.specs.Lent.{namedRoom, entryLine, EntryLent, EntriesLent};
+ghost use Rattle.sheet_lines.specs.Lent.{namedRoom, entryLine, entryLines, EntryLent, EntriesLent};
 use lines::put_group;
 use names::sequences::sequence_at;
 
@@ -44,7 +43,7 @@ pub fn put_groups(
     n: usize,
 ) -> usize
     requires { ⌜ EntriesLent (now identifiers) (now ends) (now entries) n × (at + n * namedRoom ≤ length (now out)) ⌝ }
-    ensures { λ r. ⌜ AddsAtMost (n * namedRoom) (groupLines (lentCut identifiers ends) n (old entries)) (old out) at (new out) r ⌝ }
+    ensures { λ r. ⌜ AddsAtMost (n * namedRoom) (entryLines (lentCut identifiers ends) n (old entries)) (old out) at (new out) r ⌝ }
 {
     let mut p = at;
     let mut i: usize = 0;

@@ -7,16 +7,13 @@ ghost use Rattle.ledger.specs.Booking.{countersOf, leftCounters};
 ghost use Rattle.audit_rules.specs.Calls.{lentHeld};
 ghost use Rattle.told_fragments.specs.Told.{TellLent, TellsFragment};
 use audit_rules::calls::FragmentAudit;
+use audit_rules::settings::AUDIT_OFFSET;
+use audit_rules::settings::AUDIT_SEED;
 use audit_rules::settings::AuditState;
 use fragment_lines::put_answer;
 use fragment_stream::FragmentHead;
 use observing::share_of;
 use tested_fragments::audit_tested;
-
-// The length of a seed, and the quality byte that stands for 0.
-const SEED: usize = 15;
-
-const OFFSET: u8 = 33;
 
 // Where the output ends, and the answer with the state.
 pub struct ToldFragment {
@@ -86,8 +83,8 @@ pub fn tell_fragment(
         ordinal,
         head.count,
         true,
-        SEED,
-        OFFSET,
+        AUDIT_SEED,
+        AUDIT_OFFSET,
         state,
     );
     let answer = audit.answer;

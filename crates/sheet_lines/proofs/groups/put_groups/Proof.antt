@@ -4,14 +4,14 @@ use mathlib.Core.Path.{refl}
 use Prim.Native.Nat.{ℕ, _-_}
 use native.Mathlib.Omega.{arith}
 use Rattle.lists.specs.Cut.{cut}
-use Rattle.lines.specs.Lines.{groupLines}
+use Rattle.sheet_lines.specs.Lent.{entryLines}
 use Rattle.sheet_lines.proofs.Listing.{Listed, listed-none, listed-room, listed-more, listed-all}
 use Rattle.sheet_lines.proofs.Grouping.{lines-more}
 use Rattle.sheet_lines.proofs.groups.put_groups.Statement.{statement}
 use Rattle.sheet_lines.proofs.groups.put_groups.Tie as tie
 
 abbrev Inv-loop : tie.InvT-loop
-Inv-loop out₀ at identifiers ends entries n p₀ i₀ out p i = Listed (λ (j : ℕ). groupLines (cut ends identifiers) j entries) out₀ at n out p i
+Inv-loop out₀ at identifiers ends entries n p₀ i₀ out p i = Listed (λ (j : ℕ). entryLines (cut ends identifiers) j entries) out₀ at n out p i
 
 abbrev μ-loop : tie.MeasureT-loop
 μ-loop out₀ at identifiers ends entries n p₀ i₀ out p i = n - i
