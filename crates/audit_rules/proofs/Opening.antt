@@ -4,6 +4,7 @@ use mathlib.Core.Path.{_≡_}
 use mathlib.Core.Bool.{Bool, true, false, not, _||_}
 use Prim.Native.Nat.{ℕ, _≤_}
 use native.Mathlib.Omega.{arith}
+use lib.ListN.{length}
 use Rattle.lists.specs.Filter.{every}
 use Rattle.promises.specs.Refusal.{unless, _orElse_}
 use Rattle.promises.proofs.Refusing.{none-first, none-second, passed}
