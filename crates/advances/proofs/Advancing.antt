@@ -11,7 +11,7 @@ use Rattle.lines.specs.Lines.{lineRoom, refusalLine}
 use Rattle.fragment_stream.specs.Telling.{longestFragment}
 use Rattle.catch_rules.specs.Job as catching
 use Rattle.catch_rules.specs.Job.{Stage, command, still}
-use Rattle.catch_rules.specs.Feeding.{Goes, Ends, Further, by-bytes, by-opening, MustWait, short, reached}
+use Rattle.catch_rules.specs.Feeding.{Goes, Ends, Further, by-bytes, by-opening, MustWait, reached}
 use Rattle.catch_rules.proofs.Shrinking.{still-ends}
 use Rattle.progress.specs.declared.Progress.the-variants as progress
 use Rattle.advances.specs.declared.Advance.{Advance}
@@ -57,10 +57,10 @@ module _ (stage : Stage) (bytes out : List ℕ) (at : ℕ) (out′ : List ℕ) (
         told = subst (λ p. Tells false stage bytes p [] stage) (sym (w .more)) (record { must = must; silent = refl; same = refl; few = few });
       }
 
-  -- a command that is not whole
-  pub stays : (ended : Bool) → Stays ended out at out′ r → command stage bytes ≡ catching.refuses 20 → Advances ended stage bytes out at out′ r stage
-  stays true f e = last-step stage stage bytes out at out′ r true lineRoom (refusalLine 20) (omega arith) (f .adds) (f .last) (still-ends stage bytes (refusalLine 20) e)
-  stays false f e = waits (short stage bytes e) (f .0) (f .1)
+  -- a command that is not whole, and which 20 answers at the end of the stream
+  pub stays : (ended : Bool) → Stays ended out at out′ r → MustWait stage bytes → command stage bytes ≡ catching.refuses 20 → Advances ended stage bytes out at out′ r stage
+  stays true f must e = last-step stage stage bytes out at out′ r true lineRoom (refusalLine 20) (omega arith) (f .adds) (f .last) (still-ends stage bytes (refusalLine 20) e)
+  stays false f must e = waits must (f .0) (f .1)
 
 -- a step that writes nothing and goes n bytes
 pub goes-on : (before after : Stage) (bytes out : List ℕ) (at : ℕ) (out′ : List ℕ) (ended : Bool) (n : ℕ) → out′ ≡ out → n ≤ length bytes → Further before n after → Goes before bytes [] after (drop n bytes)

@@ -1,5 +1,4 @@
 pub mod Shrinking
-pub mod Feeding
 pub mod Steps
 pub mod Sizes
 pub mod Example

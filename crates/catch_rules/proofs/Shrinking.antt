@@ -16,7 +16,7 @@ use Rattle.audit_rules.specs.Observing.{MateRead}
 use Rattle.audit_rules.specs.Fragment.{Fragment, fragmentRefusal}
 use Rattle.audit_rules.specs.Calls.{mateOf}
 use Rattle.audit_rules.specs.Sheet.{finishRefusal}
-use Rattle.stream.specs.Operands.{Parsed, parsed, wrong, _followedBy_, bytesIn, littleEndian}
+use Rattle.stream.specs.Operands.{Parsed, parsed, wrong, short, _followedBy_, bytesIn, littleEndian}
 use Rattle.audit_codes.specs.Codes.{isMark, isSet, roleOf}
 use Rattle.stream.specs.Commands.{provided, settingsOf, settingsIn, isNameByte, withTarget, targetRight, targetIn, qualityCount, readRight, readOperands, readIn, readsIn, fragmentIn, maxStreamReads}
 use Rattle.catch_rules.specs.Job.{noTargets, Stage, beginning, supplying, running, Step, ends, goes, refuses, whenRead, audited, finished, begin, run, opened, supply, command, lentOf, streamEntries, onward, written, still}
@@ -26,21 +26,24 @@ use Rattle.catch_rules.specs.Job.{noTargets, Stage, beginning, supplying
 abbrev Shrinks : {A : Type 0} → Parsed A → ℕ → Type 0
 Shrinks (parsed a rest) n = length rest ≤ n
 Shrinks wrong n = Unit {0}
+Shrinks short n = Unit {0}
 
 shrinks-more : {A : Type 0} (p : Parsed A) (m n : ℕ) → m ≤ n → Shrinks p m → Shrinks p n
 shrinks-more (parsed a rest) m n h s = omega arith
 shrinks-more wrong m n h s = tt
+shrinks-more short m n h s = tt
 
 followed-shrinks : {A B : Type 0} (p : Parsed A) (next : A → List ℕ → Parsed B) (n : ℕ) → Shrinks p n → ((a : A) (rest : List ℕ) → Shrinks (next a rest) (length rest)) → Shrinks (p followedBy next) n
 followed-shrinks (parsed a rest) next n s f = shrinks-more (next a rest) (length rest) n s (f a rest)
 followed-shrinks wrong next n s f = tt
+followed-shrinks short next n s f = tt
 
-cond-shrinks : {A : Type 0} (b : Bool) (p : Parsed A) (n : ℕ) → Shrinks p n → Shrinks (cond b p wrong) n
-cond-shrinks true p n s = s
-cond-shrinks false p n s = tt
+cond-shrinks : {A : Type 0} (b : Bool) (p q : Parsed A) (n : ℕ) → Shrinks p n → Shrinks q n → Shrinks (cond b p q) n
+cond-shrinks true p q n s t = s
+cond-shrinks false p q n s t = t
 
 bytes-shrink : (n : ℕ) (bytes : List ℕ) → Shrinks (bytesIn n bytes) (length bytes)
-bytes-shrink n bytes = cond-shrinks (leb n (length bytes)) (parsed (take n bytes) (drop n bytes)) (length bytes) (omega (arith, length-drop n bytes))
+bytes-shrink n bytes = cond-shrinks (leb n (length bytes)) (parsed (take n bytes) (drop n bytes)) short (length bytes) (omega (arith, length-drop n bytes)) tt
 
 provided-shrinks : {A : Type 0} (b : Bool) (a : A) (rest : List ℕ) → Shrinks (provided b a rest) (length rest)
 provided-shrinks true a rest = omega arith
@@ -52,10 +55,10 @@ settings-shrink bytes =
     (λ h rest. provided-shrinks (isMark (getD h 0 0) && isMark (getD h 1 0)) (settingsOf h) rest)
 
 target-shrinks : (c : Catalogue) (bytes : List ℕ) → Shrinks (targetIn c bytes) (length bytes)
-target-shrinks c bytes = followed-shrinks (bytesIn 6 bytes) named (length bytes) (bytes-shrink 6 bytes) named-shrinks
+target-shrinks c bytes = followed-shrinks (bytesIn 6 bytes) fitting (length bytes) (bytes-shrink 6 bytes) fitting-shrinks
   where
     whole : List ℕ → List ℕ → List ℕ → List ℕ → Parsed Catalogue
-    whole h identifier bases = provided (targetRight c h && every isNameByte identifier) (withTarget c (getD h 0 0) identifier bases)
+    whole h identifier bases = provided (every isNameByte identifier) (withTarget c (getD h 0 0) identifier bases)
 
     based : List ℕ → List ℕ → List ℕ → Parsed Catalogue
     based h identifier behind = bytesIn (littleEndian (drop 2 h)) behind followedBy whole h identifier
@@ -63,19 +66,25 @@ target-shrinks c bytes = followed-shrinks (bytesIn 6 bytes) named (length bytes)
     named : List ℕ → List ℕ → Parsed Catalogue
     named h rest = bytesIn (getD h 1 0) rest followedBy based h
 
+    fitting : List ℕ → List ℕ → Parsed Catalogue
+    fitting h rest = cond (targetRight c h) (named h rest) wrong
+
     based-shrinks : (h identifier behind : List ℕ) → Shrinks (based h identifier behind) (length behind)
     based-shrinks h identifier behind =
         followed-shrinks (bytesIn (littleEndian (drop 2 h)) behind) (whole h identifier) (length behind) (bytes-shrink (littleEndian (drop 2 h)) behind)
-        (λ bases last. provided-shrinks (targetRight c h && every isNameByte identifier) (withTarget c (getD h 0 0) identifier bases) last)
+        (λ bases last. provided-shrinks (every isNameByte identifier) (withTarget c (getD h 0 0) identifier bases) last)
 
     named-shrinks : (h rest : List ℕ) → Shrinks (named h rest) (length rest)
     named-shrinks h rest = followed-shrinks (bytesIn (getD h 1 0) rest) (based h) (length rest) (bytes-shrink (getD h 1 0) rest) (based-shrinks h)
 
+    fitting-shrinks : (h rest : List ℕ) → Shrinks (fitting h rest) (length rest)
+    fitting-shrinks h rest = cond-shrinks (targetRight c h) (named h rest) wrong (length rest) (named-shrinks h rest) tt
+
 operands-shrink : (bytes : List ℕ) → Shrinks (readOperands bytes) (length bytes)
-operands-shrink bytes = followed-shrinks (bytesIn 6 bytes) based (length bytes) (bytes-shrink 6 bytes) based-shrinks
+operands-shrink bytes = followed-shrinks (bytesIn 6 bytes) fitting (length bytes) (bytes-shrink 6 bytes) fitting-shrinks
   where
     whole : List ℕ → List ℕ → List ℕ → List ℕ → Parsed MateRead
-    whole h bases qualities = provided (readRight h) (mateOf (roleOf (getD h 0 0)) bases (isSet (getD h 1 0)) qualities)
+    whole h bases qualities = parsed (mateOf (roleOf (getD h 0 0)) bases (isSet (getD h 1 0)) qualities)
 
     judged : List ℕ → List ℕ → List ℕ → Parsed MateRead
     judged h bases behind = bytesIn (qualityCount h) behind followedBy whole h bases
@@ -83,17 +92,23 @@ operands-shrink bytes = followed-shrinks (bytesIn 6 bytes) based (length bytes) 
     based : List ℕ → List ℕ → Parsed MateRead
     based h rest = bytesIn (littleEndian (drop 2 h)) rest followedBy judged h
 
+    fitting : List ℕ → List ℕ → Parsed MateRead
+    fitting h rest = cond (readRight h) (based h rest) wrong
+
     judged-shrinks : (h bases behind : List ℕ) → Shrinks (judged h bases behind) (length behind)
     judged-shrinks h bases behind =
         followed-shrinks (bytesIn (qualityCount h) behind) (whole h bases) (length behind) (bytes-shrink (qualityCount h) behind)
-        (λ qualities last. provided-shrinks (readRight h) (mateOf (roleOf (getD h 0 0)) bases (isSet (getD h 1 0)) qualities) last)
+        (λ qualities last. omega arith)
 
     based-shrinks : (h rest : List ℕ) → Shrinks (based h rest) (length rest)
     based-shrinks h rest = followed-shrinks (bytesIn (littleEndian (drop 2 h)) rest) (judged h) (length rest) (bytes-shrink (littleEndian (drop 2 h)) rest) (judged-shrinks h)
 
+    fitting-shrinks : (h rest : List ℕ) → Shrinks (fitting h rest) (length rest)
+    fitting-shrinks h rest = cond-shrinks (readRight h) (based h rest) wrong (length rest) (based-shrinks h rest) tt
+
 read-shrinks : (bytes : List ℕ) → Shrinks (readIn bytes) (length bytes)
 read-shrinks [] = tt
-read-shrinks (code ∷ bytes) = cond-shrinks (eqb code 4) (readOperands bytes) (length (code ∷ bytes)) (shrinks-more (readOperands bytes) (length bytes) (length (code ∷ bytes)) (omega arith) (operands-shrink bytes))
+read-shrinks (code ∷ bytes) = cond-shrinks (eqb code 4) (readOperands bytes) wrong (length (code ∷ bytes)) (shrinks-more (readOperands bytes) (length bytes) (length (code ∷ bytes)) (omega arith) (operands-shrink bytes)) tt
 
 reads-shrink : (n : ℕ) (bytes : List ℕ) → Shrinks (readsIn n bytes) (length bytes)
 reads-shrink zero bytes = omega arith
@@ -112,8 +127,9 @@ fragment-shrinks bytes = followed-shrinks (bytesIn 9 bytes) counted (length byte
 
     counted-shrinks : (h rest : List ℕ) → Shrinks (counted h rest) (length rest)
     counted-shrinks h rest =
-        cond-shrinks (leb (getD h 8 0) maxStreamReads) (readsIn (getD h 8 0) rest followedBy whole h) (length rest)
+        cond-shrinks (leb (getD h 8 0) maxStreamReads) (readsIn (getD h 8 0) rest followedBy whole h) wrong (length rest)
         (followed-shrinks (readsIn (getD h 8 0) rest) (whole h) (length rest) (reads-shrink (getD h 8 0) rest) (λ reads last. omega arith))
+        tt
 
 -- ---- a command
 
@@ -125,6 +141,7 @@ Fewer (goes out stage rest) n = length rest < n
 when-fewer : {A : Type 0} (p : Parsed A) (next : A → List ℕ → Step) (n : ℕ) → Shrinks p n → ((a : A) (rest : List ℕ) → length rest ≤ n → Fewer (next a rest) (suc n)) → Fewer (whenRead p next) (suc n)
 when-fewer (parsed a rest) next n s f = f a rest s
 when-fewer wrong next n s f = tt
+when-fewer short next n s f = tt
 
 cond-fewer : (b : Bool) (x y : Step) (n : ℕ) → Fewer x n → Fewer y n → Fewer (cond b x y) n
 cond-fewer true x y n f g = f

@@ -14,7 +14,7 @@ use Rattle.audit_rules.specs.Opening.{openingRefusal, started, wayOf}
 use Rattle.audit_rules.specs.Fragment.{Fragment, fragmentRefusal, fragmentAccepted}
 use Rattle.audit_rules.specs.Sheet.{finishRefusal}
 use Rattle.lines.specs.Lines.{refusalLine}
-use Rattle.stream.specs.Operands.{Parsed, wrong}
+use Rattle.stream.specs.Operands.{Parsed, short}
 use Rattle.stream.specs.Commands.{settingsIn, targetIn, fragmentIn}
 use Rattle.stream.specs.Telling.{Read, Refused}
 use Rattle.sheet_lines.specs.Sheets.{fragmentLines, sheetLines}
@@ -31,7 +31,7 @@ module _ {A : Type 0} (parser : List ℕ → Parsed A) (next : A → List ℕ �
   when-refused : Refused parser bytes → (more : List ℕ) → whenRead (parser (bytes ++ more)) next ≡ refuses 20
   when-refused r more = ap (λ p. whenRead p next) (r more)
 
-  when-short : parser bytes ≡ wrong → whenRead (parser bytes) next ≡ refuses 20
+  when-short : parser bytes ≡ short → whenRead (parser bytes) next ≡ refuses 20
   when-short e = ap (λ p. whenRead p next) e
 
 -- a test of a code that is another
@@ -47,7 +47,7 @@ module _ (bytes : List ℕ) where
   pub begin-wrong : Refused settingsIn bytes → Ends beginning (1 ∷ bytes) (refusalLine 20)
   begin-wrong r more = still-ends beginning (1 ∷ bytes ++ more) (refusalLine 20) (when-refused settingsIn (λ t. goes [] (supplying t noTargets)) bytes r more)
 
-  pub begin-short : settingsIn bytes ≡ wrong → command beginning (1 ∷ bytes) ≡ refuses 20
+  pub begin-short : settingsIn bytes ≡ short → command beginning (1 ∷ bytes) ≡ refuses 20
   begin-short e = when-short settingsIn (λ t. goes [] (supplying t noTargets)) bytes e
 
   pub begin-other : (code : ℕ) → (code ≡ 1 → ⊥) → Ends beginning (code ∷ bytes) (refusalLine 20)
@@ -68,7 +68,7 @@ module _ (s : Settings) (c : Catalogue) (bytes : List ℕ) where
   pub supply-wrong : Refused (targetIn c) bytes → Ends (supplying s c) (2 ∷ bytes) (refusalLine 20)
   supply-wrong r more = still-ends (supplying s c) (2 ∷ bytes ++ more) (refusalLine 20) (when-refused (targetIn c) (λ d. goes [] (supplying s d)) bytes r more)
 
-  pub supply-short : targetIn c bytes ≡ wrong → command (supplying s c) (2 ∷ bytes) ≡ refuses 20
+  pub supply-short : targetIn c bytes ≡ short → command (supplying s c) (2 ∷ bytes) ≡ refuses 20
   supply-short e = when-short (targetIn c) (λ d. goes [] (supplying s d)) bytes e
 
   abbrev refusal : ℕ
@@ -126,7 +126,7 @@ module _ (c : Catalogue) (h : Held) where
     pub fragment-wrong : Refused fragmentIn bytes → Ends (running c h) (3 ∷ bytes) (refusalLine 20)
     fragment-wrong r more = still-ends (running c h) (3 ∷ bytes ++ more) (refusalLine 20) (when-refused fragmentIn audit bytes r more)
 
-    pub fragment-short : fragmentIn bytes ≡ wrong → command (running c h) (3 ∷ bytes) ≡ refuses 20
+    pub fragment-short : fragmentIn bytes ≡ short → command (running c h) (3 ∷ bytes) ≡ refuses 20
     fragment-short e = when-short fragmentIn audit bytes e
 
     pub run-other : (code : ℕ) → (code ≡ 3 → ⊥) → (code ≡ 5 → ⊥) → Ends (running c h) (code ∷ bytes) (refusalLine 20)

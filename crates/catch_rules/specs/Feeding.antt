@@ -5,7 +5,9 @@ use Prim.Native.Nat.{ℕ, _≤_}
 use Rattle.catalogue.specs.Catalogue.{Catalogue}
 use Rattle.audit_rules.specs.declared.settings.Settings.{Settings}
 use Rattle.audit_rules.specs.Settings.{Held}
-use Rattle.catch_rules.specs.Job.{Stage, beginning, supplying, running, refuses, command, still}
+use Rattle.stream.specs.Operands.{short}
+use Rattle.stream.specs.Commands.{settingsIn, targetIn, fragmentIn}
+use Rattle.catch_rules.specs.Job.{Stage, beginning, supplying, running, still}
 
 -- whatever follows the bytes that are there: some are written, and the run goes on at a stage with what is left of them
 abbrev pub Goes : Stage → List ℕ → List ℕ → Stage → List ℕ → Type 0
@@ -26,18 +28,13 @@ pub data Further : Stage → ℕ → Stage → Type 0 where
   by-bytes : (before : Stage) (n : ℕ) (after : Stage) → 1 ≤ n → reached before ≤ reached after → Further before n after
   by-opening : (s : Settings) (c d : Catalogue) (h : Held) → Further (supplying s c) 0 (running d h)
 
--- the bytes at hand are no whole command: with these alone the stream is short; or they are 05, behind which no byte may stand
+-- the bytes at hand are no whole command: there is none; what stands behind the code is not all there; or they are 05, behind which no byte may stand
 pub data MustWait : Stage → List ℕ → Type 0 where
-  short : (stage : Stage) (bytes : List ℕ) → command stage bytes ≡ refuses 20 → MustWait stage bytes
+  no-byte : (stage : Stage) → MustWait stage []
+  settings-lack : (bytes : List ℕ) → settingsIn bytes ≡ short → MustWait beginning (1 ∷ bytes)
+  target-lacks : (s : Settings) (c : Catalogue) (bytes : List ℕ) → targetIn c bytes ≡ short → MustWait (supplying s c) (2 ∷ bytes)
+  fragment-lacks : (c : Catalogue) (h : Held) (bytes : List ℕ) → fragmentIn bytes ≡ short → MustWait (running c h) (3 ∷ bytes)
   at-the-end : (c : Catalogue) (h : Held) → MustWait (running c h) (5 ∷ [])
-
--- a run with bytes at hand, pieces of the stream still to come, and what it writes: it does a command, or takes a piece; it ends, whatever
--- is still to come, or at the end of the stream
-pub data Fed : Stage → List ℕ → List (List ℕ) → List ℕ → Type 0 where
-  does : (stage stage′ : Stage) (bytes left out behind : List ℕ) (pieces : List (List ℕ)) → Goes stage bytes out stage′ left → Fed stage′ left pieces behind → Fed stage bytes pieces (out ++ behind)
-  takes : (stage : Stage) (bytes piece out : List ℕ) (pieces : List (List ℕ)) → Fed stage (bytes ++ piece) pieces out → Fed stage bytes (piece ∷ pieces) out
-  stops : (stage : Stage) (bytes out : List ℕ) (pieces : List (List ℕ)) → Ends stage bytes out → Fed stage bytes pieces out
-  closes : (stage : Stage) (bytes out : List ℕ) → still stage bytes ≡ out → Fed stage bytes [] out
 
 -- pieces joined
 abbrev pub joined : List (List ℕ) → List ℕ

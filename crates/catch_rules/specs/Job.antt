@@ -13,7 +13,7 @@ use Rattle.audit_rules.specs.Opening.{IndexLent, columns, openingRefusal, start
 use Rattle.audit_rules.specs.Fragment.{Fragment, fragmentRefusal, fragmentAccepted}
 use Rattle.audit_rules.specs.Sheet.{finishRefusal}
 use Rattle.lines.specs.Lines.{refusalLine}
-use Rattle.stream.specs.Operands.{Parsed, parsed, wrong}
+use Rattle.stream.specs.Operands.{Parsed, parsed, wrong, short}
 use Rattle.stream.specs.Commands.{settingsIn, targetIn, fragmentIn}
 use Rattle.sheet_lines.specs.Sheets.{fragmentLines, sheetLines}
 
@@ -51,6 +51,7 @@ refuses n = ends (refusalLine n)
 abbrev pub whenRead : {A : Type 0} → Parsed A → (A → List ℕ → Step) → Step
 whenRead (parsed a rest) next = next a rest
 whenRead wrong next = refuses 20
+whenRead short next = refuses 20
 
 -- 01 comes first
 abbrev pub begin : List ℕ → Step

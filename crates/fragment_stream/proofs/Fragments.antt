@@ -17,11 +17,11 @@ use Rattle.fragment_stream.specs.declared.ReadFound.{ReadFound}
 use Rattle.fragment_stream.specs.declared.ReadFound.the-variants as reads
 use Rattle.fragment_stream.specs.declared.FragmentRead.{FragmentRead}
 use Rattle.fragment_stream.specs.declared.FragmentRead.the-variants as fragments
-use Rattle.stream.specs.Operands.{Parsed, parsed, wrong, _followedBy_, bytesIn, littleEndian}
+use Rattle.stream.specs.Operands.{Parsed, parsed, wrong, short, _followedBy_, bytesIn, littleEndian}
 use Rattle.stream.specs.Commands.{maxStreamReads, readIn, readsIn, fragmentIn}
 use Rattle.stream.specs.Telling.{Read, Refused, Short}
 use Rattle.fragment_stream.specs.Telling.{mateAt, longestRead, ReadTold, PairTold, ReadsFound, longestReads, ReadsTold, longestFragment, FragmentTold}
-use Rattle.stream.proofs.Pieces.{here, bytes-in, bytes-lacking, behind-parsed, behind-wrong}
+use Rattle.stream.proofs.Pieces.{here, bytes-in, bytes-lacking, behind-parsed, behind-wrong, behind-short}
 use Rattle.fragment_stream.proofs.Mates.{read-longest}
 
 -- ---- reads
@@ -30,17 +30,21 @@ use Rattle.fragment_stream.proofs.Mates.{read-longest}
 abbrev nextRead : ℕ → MateRead → List ℕ → Parsed (List MateRead)
 nextRead n r rest = readsIn n rest followedBy λ rs. parsed (r ∷ rs)
 
--- where the first is wrong, all are
+-- where the first is wrong or short, all are
 first-wrong : (count : ℕ) (bytes : List ℕ) → 1 ≤ count → readIn bytes ≡ wrong → readsIn count bytes ≡ wrong
 first-wrong zero bytes h e = absurd (omega arith)
 first-wrong (suc n) bytes h e = behind-wrong (readIn bytes) (nextRead n) e
+
+first-short : (count : ℕ) (bytes : List ℕ) → 1 ≤ count → readIn bytes ≡ short → readsIn count bytes ≡ short
+first-short zero bytes h e = absurd (omega arith)
+first-short (suc n) bytes h e = behind-short (readIn bytes) (nextRead n) e
 
 module _ (b : List ℕ) (count : ℕ) (least : 1 ≤ count) where
   pub reads-refused : Refused readIn (drop 9 b) → Refused (readsIn count) (drop 9 b)
   reads-refused h more = first-wrong count (drop 9 b ++ more) least (h more)
 
   pub reads-short : Short readIn (drop 9 b) longestRead → Short (readsIn count) (drop 9 b) longestReads
-  reads-short h = record { ended = first-wrong count (drop 9 b) least (h .ended); few = omega (arith, h .few) }
+  reads-short h = record { ended = first-short count (drop 9 b) least (h .ended); few = omega (arith, h .few) }
 
 module _ (b : List ℕ) (ordinal : ℕ) (p : ReadPlace) (t : ReadTold b 9 (reads.Found p)) where
   pub first-within : p .end ≤ length b
@@ -72,6 +76,9 @@ module _ (b : List ℕ) (ordinal : ℕ) (p : ReadPlace) (t : ReadTold b 9 (reads
   second-wrong : (rest : List ℕ) → readIn rest ≡ wrong → nextRead 1 (mateAt b p) rest ≡ wrong
   second-wrong rest e = behind-wrong (readsIn 1 rest) (λ rs. parsed (mateAt b p ∷ rs)) (behind-wrong (readIn rest) (nextRead 0) e)
 
+  second-short : (rest : List ℕ) → readIn rest ≡ short → nextRead 1 (mateAt b p) rest ≡ short
+  second-short rest e = behind-short (readsIn 1 rest) (λ rs. parsed (mateAt b p ∷ rs)) (behind-short (readIn rest) (nextRead 0) e)
+
   two-refused : Refused readIn (drop (p .end) b) → Refused (readsIn 2) (drop 9 b)
   two-refused h more = behind-first more ∙ second-wrong (drop (p .end) b ++ more) (h more)
 
@@ -79,7 +86,7 @@ module _ (b : List ℕ) (ordinal : ℕ) (p : ReadPlace) (t : ReadTold b 9 (reads
   two-short h =
       let e : readIn (drop 9 b) ≡ parsed (mateAt b p) (drop (p .end) b) = here readIn (λ l. parsed (mateAt b p) l) (drop 9 b) (drop (p .end) b) (t .1) in
       record {
-        ended = here (readsIn 2) (nextRead 1 (mateAt b p)) (drop 9 b) (drop (p .end) b) behind-first ∙ second-wrong (drop (p .end) b) (h .ended);
+        ended = here (readsIn 2) (nextRead 1 (mateAt b p)) (drop 9 b) (drop (p .end) b) behind-first ∙ second-short (drop (p .end) b) (h .ended);
         few = omega (arith, h .few, read-longest (drop 9 b) (mateAt b p) (drop (p .end) b) e);
       }
 
@@ -119,7 +126,7 @@ behind count ordinal rest = cond (leb count maxStreamReads) (readsIn count rest 
 pub fragment-headless : (b : List ℕ) → length b < 9 → Short fragmentIn b longestFragment
 fragment-headless b h =
     record {
-      ended = behind-wrong (bytesIn 9 b) (λ p. behind (getD p 8 0) (littleEndian (take 8 p))) (bytes-lacking 9 b h);
+      ended = behind-short (bytesIn 9 b) (λ p. behind (getD p 8 0) (littleEndian (take 8 p))) (bytes-lacking 9 b h);
       few = omega arith;
     }
 
@@ -137,8 +144,11 @@ module _ (b : List ℕ) (count ordinal : ℕ) (h : 9 ≤ length b) (ec : count �
     allowed : (rest : List ℕ) → behind count ordinal rest ≡ (readsIn count rest followedBy λ rs. parsed (record { ordinal = ordinal; reads = rs }))
     allowed rest = rw (le-leb count 2 most)
 
-    passed : (rest : List ℕ) → readsIn count rest ≡ wrong → behind count ordinal rest ≡ wrong
-    passed rest e = allowed rest ∙ behind-wrong (readsIn count rest) (λ rs. parsed (record { ordinal = ordinal; reads = rs })) e
+    reads-wrong : (rest : List ℕ) → readsIn count rest ≡ wrong → behind count ordinal rest ≡ wrong
+    reads-wrong rest e = allowed rest ∙ behind-wrong (readsIn count rest) (λ rs. parsed (record { ordinal = ordinal; reads = rs })) e
+
+    reads-lacking : (rest : List ℕ) → readsIn count rest ≡ short → behind count ordinal rest ≡ short
+    reads-lacking rest e = allowed rest ∙ behind-short (readsIn count rest) (λ rs. parsed (record { ordinal = ordinal; reads = rs })) e
 
     held : (rs : List MateRead) (rest left : List ℕ) → readsIn count rest ≡ parsed rs left → behind count ordinal rest ≡ parsed (record { ordinal = ordinal; reads = rs }) left
     held rs rest left e = allowed rest ∙ behind-parsed (readsIn count rest) (λ l. parsed (record { ordinal = ordinal; reads = l })) rs left e
@@ -168,10 +178,10 @@ module _ (b : List ℕ) (count ordinal : ℕ) (h : 9 ≤ length b) (ec : count �
       k .first,
       k .second,
     )
-    fragment-told fragments.Wrong k = λ more. taken more ∙ passed (drop 9 b ++ more) (k more)
+    fragment-told fragments.Wrong k = λ more. taken more ∙ reads-wrong (drop 9 b ++ more) (k more)
     fragment-told fragments.More k =
         record {
-          ended = here fragmentIn (behind count ordinal) b (drop 9 b) taken ∙ passed (drop 9 b) (k .ended);
+          ended = here fragmentIn (behind count ordinal) b (drop 9 b) taken ∙ reads-lacking (drop 9 b) (k .ended);
           few = omega (arith, k .few, length-drop 9 b);
         }
 

@@ -11,10 +11,10 @@ use borrow.Author.Tests.{leb-true}
 use Rattle.lists.proofs.Cases.{by-test}
 use Rattle.audit_rules.specs.Observing.{MateRead}
 use Rattle.audit_rules.specs.Fragment.{Fragment}
-use Rattle.stream.specs.Operands.{Parsed, parsed, wrong, _followedBy_, littleEndian}
+use Rattle.stream.specs.Operands.{Parsed, parsed, wrong, short, _followedBy_, littleEndian}
 use Rattle.stream.specs.Commands.{readIn, readsIn, fragmentIn, maxStreamReads}
 use Rattle.stream.specs.Telling.{Read}
-use Rattle.stream.proofs.Pieces.{bytes-were, not-wrong}
+use Rattle.stream.proofs.Pieces.{bytes-were, not-wrong, not-short}
 use Rattle.fragment_stream.specs.Telling.{longestRead, longestFragment}
 use Rattle.fragment_stream.proofs.Mates.{same-rest, read-longest}
 
@@ -23,6 +23,7 @@ first-was : {A B : Type 0} (p : Parsed A) (next : A → List ℕ → Parsed B) (
     → ((a : A) (l : List ℕ) → p ≡ parsed a l → next a l ≡ parsed b rest → P) → P
 first-was (parsed a l) next b rest P e k = k a l refl e
 first-was wrong next b rest P e k = not-wrong e
+first-was short next b rest P e k = not-short e
 
 reads-longest : (n : ℕ) (b : List ℕ) (rs : List MateRead) (rest : List ℕ) → readsIn n b ≡ parsed rs rest → length b ≤ length rest + n * longestRead
 reads-longest zero b rs rest e = let z = ap length (same-rest e) in omega (arith, z)

@@ -16,18 +16,18 @@ use Rattle.audit_rules.specs.Calls.{mateOf}
 use Rattle.fragment_stream.specs.declared.ReadPlace.{ReadPlace}
 use Rattle.audit_codes.specs.Codes.{isMark, isSet, roleOf}
 use Rattle.stream.specs.Operands.{Parsed, parsed, wrong, _followedBy_, bytesIn, littleEndian}
-use Rattle.stream.specs.Commands.{maxStreamRead, provided, readFits, qualitiesOf, readOperands, readIn}
+use Rattle.stream.specs.Commands.{maxStreamRead, readFits, qualitiesOf, readOperands, readIn}
 use Rattle.stream.specs.Telling.{Refused, Short}
 use Rattle.fragment_stream.specs.Telling.{Placed, mateAt, longestRead}
-use Rattle.stream.proofs.Pieces.{here, not-wrong, drop-take, granted, denied, bytes-in, bytes-lacking, bytes-were, behind-parsed, behind-wrong, twoIn, two-wrong, two-lacking, two-in}
+use Rattle.stream.proofs.Pieces.{here, not-wrong, not-short, drop-take, bytes-in, bytes-lacking, bytes-were, behind-parsed, behind-short, twoIn, two-lacking, two-in}
 
 -- what follows the bases and the qualities
-abbrev next : ℕ → ℕ → ℕ → List ℕ → List ℕ → List ℕ → Parsed MateRead
-next role mark k bases qualities = provided (readFits role mark k) (mateOf (roleOf role) bases (isSet mark) qualities)
+abbrev next : ℕ → ℕ → List ℕ → List ℕ → List ℕ → Parsed MateRead
+next role mark bases qualities = parsed (mateOf (roleOf role) bases (isSet mark) qualities)
 
 -- what follows the six bytes
 abbrev behind : ℕ → ℕ → ℕ → List ℕ → Parsed MateRead
-behind role mark k rest = twoIn k (qualitiesOf mark k) rest (next role mark k)
+behind role mark k rest = cond (readFits role mark k) (twoIn k (qualitiesOf mark k) rest (next role mark)) wrong
 
 -- a read that fits is of a mark and no longer than 4,096
 pub read-most : (role mark k : ℕ) → readFits role mark k ≡ true → k ≤ 4096
@@ -63,7 +63,7 @@ module _ (b : List ℕ) (at : ℕ) where
           record {
             ended =
                 here readIn readOperands (drop at b) (drop (suc at) b) coded
-                ∙ behind-wrong (bytesIn 6 (drop (suc at) b)) (λ p. behind (getD p 0 0) (getD p 1 0) (littleEndian (drop 2 p))) (bytes-lacking 6 (drop (suc at) b) (simp length-drop (omega arith)));
+                ∙ behind-short (bytesIn 6 (drop (suc at) b)) (λ p. behind (getD p 0 0) (getD p 1 0) (littleEndian (drop 2 p))) (bytes-lacking 6 (drop (suc at) b) (simp length-drop (omega arith)));
             few = simp length-drop (omega arith);
           }
 
@@ -96,10 +96,12 @@ module _ (b : List ℕ) (at role mark k m : ℕ) (h : at + 7 ≤ length b) (four
       ∙ ap (λ x. behind role mark x (drop 6 d ++ more)) number
       ∙ ap (λ l. behind role mark k (l ++ more)) (drop-behind b at 6)
 
+  -- by the test of the head
+  judged : (t : Bool) → readFits role mark k ≡ t → (more : List ℕ) → readIn (drop at b ++ more) ≡ cond t (twoIn k (qualitiesOf mark k) (drop (at + 7) b ++ more) (next role mark)) wrong
+  judged t e more = taken more ∙ ap (λ v. cond v (twoIn k (qualitiesOf mark k) (drop (at + 7) b ++ more) (next role mark)) wrong) e
+
   pub read-refused : readFits role mark k ≡ false → Refused readIn (drop at b)
-  read-refused e more =
-      taken more
-      ∙ two-wrong (next role mark k) k (qualitiesOf mark k) (drop (at + 7) b ++ more) (λ x y rest. denied (mateOf (roleOf role) x (isSet mark) y) rest (readFits role mark k) e)
+  read-refused e more = judged false e more
 
   module _ (fits : readFits role mark k ≡ true) (q : ℕ) (eq : q ≡ qualitiesOf mark k) where
     pub read-short : length b < at + 7 + k + q → Short readIn (drop at b) longestRead
@@ -107,7 +109,7 @@ module _ (b : List ℕ) (at role mark k m : ℕ) (h : at + 7 ≤ length b) (four
         let i = read-most role mark k fits in
         let j = qualities-most mark k in
         record {
-          ended = here readIn (behind role mark k) (drop at b) (drop (at + 7) b) taken ∙ two-lacking (next role mark k) k (qualitiesOf mark k) (drop (at + 7) b) (simp length-drop (omega arith));
+          ended = here readIn (λ rest. twoIn k (qualitiesOf mark k) rest (next role mark)) (drop at b) (drop (at + 7) b) (judged true fits) ∙ two-lacking (next role mark) k (qualitiesOf mark k) (drop (at + 7) b) (simp length-drop (omega arith));
           few = simp length-drop (omega arith);
         }
 
@@ -128,10 +130,9 @@ module _ (b : List ℕ) (at role mark k m : ℕ) (h : at + 7 ≤ length b) (four
 
       told : (more : List ℕ) → readIn (drop at b ++ more) ≡ parsed (mateAt b p) (drop (p .end) b ++ more)
       told more =
-          taken more
-          ∙ ap (λ n. twoIn k n (drop (at + 7) b ++ more) (next role mark k)) (sym eq)
-          ∙ two-in (next role mark k) b more (at + 7) k q s
-          ∙ granted (mateOf (roleOf role) (window b (at + 7) k) (isSet mark) (window b (at + 7 + k) q)) (drop (at + 7 + k + q) b ++ more) (readFits role mark k) fits
+          judged true fits more
+          ∙ ap (λ n. twoIn k n (drop (at + 7) b ++ more) (next role mark)) (sym eq)
+          ∙ two-in (next role mark) b more (at + 7) k q s
           ∙ ap (λ x. parsed x (drop (at + 7 + k + q) b ++ more)) mate
           ∙ ap (λ n. parsed (mateAt b p) (drop n b ++ more)) (sym end)
 
@@ -151,18 +152,17 @@ operands-most b r rest e =
     let k = littleEndian (drop 2 (take 6 b)) in
     let q = qualitiesOf mark k in
     let l = drop k (drop 6 b) in
-    let mate = mateOf (roleOf role) (take k (drop 6 b)) (isSet mark) (take q l) in
     let head = bytes-were 6 b (λ p. behind (getD p 0 0) (getD p 1 0) (littleEndian (drop 2 p))) r rest e in
-    let bases = bytes-were k (drop 6 b) (λ x d. bytesIn q d followedBy λ y. next role mark k x y) r rest (head .1) in
-    let qualities = bytes-were q l (λ y. next role mark k (take k (drop 6 b)) y) r rest (bases .1) in
     by-test (readFits role mark k)
     (λ t.
-    let left : length (drop q l) ≡ length rest = ap length (same-rest (sym (granted mate (drop q l) (readFits role mark k) t) ∙ qualities .1)) in
+    let bases = bytes-were k (drop 6 b) (λ x d. bytesIn q d followedBy λ y. next role mark x y) r rest (sym (ap (λ v. cond v (twoIn k q (drop 6 b) (next role mark)) wrong) t) ∙ head .1) in
+    let qualities = bytes-were q l (λ y. next role mark (take k (drop 6 b)) y) r rest (bases .1) in
+    let left : length (drop q l) ≡ length rest = ap length (same-rest (qualities .1)) in
     omega (arith, head .0, bases .0, qualities .0, left, length-drop q l, length-drop k (drop 6 b), length-drop 6 b, read-most role mark k t, qualities-most mark k))
-    (λ t. not-wrong (sym (denied mate (drop q l) (readFits role mark k) t) ∙ qualities .1))
+    (λ t. not-wrong (sym (ap (λ v. cond v (twoIn k q (drop 6 b) (next role mark)) wrong) t) ∙ head .1))
 
 pub read-longest : (b : List ℕ) (r : MateRead) (rest : List ℕ) → readIn b ≡ parsed r rest → length b ≤ length rest + longestRead
-read-longest [] r rest e = not-wrong e
+read-longest [] r rest e = not-short e
 read-longest (code ∷ b) r rest e =
     by-test (eqb code 4)
     (λ t. omega (arith, operands-most b r rest (sym (ap (λ v. cond v (readOperands b) wrong) t) ∙ e)))

@@ -18,6 +18,7 @@ use Rattle.audit_rules.specs.Opening.{columns, started}
 use Rattle.stream.specs.Commands.{maxStreamTargets}
 use Rattle.supplies.specs.Supplied.{suppliedIn}
 use Rattle.catch_rules.specs.Job.{streamEntries, beginning, supplying}
+use Rattle.catch_rules.specs.Feeding.{no-byte}
 use Rattle.catch_rules.proofs.Steps.{none-left}
 use Rattle.job_opening.specs.Opened.{JobRoom}
 use Rattle.advances.specs.declared.Advance.{Advance}
@@ -61,7 +62,7 @@ length-back n part l e h = omega (arith, e, length-append part (drop n l), lengt
 
 module _ (j : Job) (b : Buffers) (kept : JobKept j b) (ended : Bool) (out : List ℕ) (at : ℕ) (out′ : List ℕ) where
   pub nothing-there : (bytes : List ℕ) → length bytes ≡ 0 → (a : Advance) → Stays ended out at out′ a → JobAdvances ended j b bytes out at out′ (record { job = j; advance = a }) b
-  nothing-there [] e a s = record { advances = stays (stageOf j b) [] out at out′ a (omega arith) ended s (none-left (stageOf j b)); kept = kept }
+  nothing-there [] e a s = record { advances = stays (stageOf j b) [] out at out′ a (omega arith) ended s (no-byte (stageOf j b)) (none-left (stageOf j b)); kept = kept }
   nothing-there (x ∷ xs) e a s = absurd (omega arith)
 
   -- ---- 01

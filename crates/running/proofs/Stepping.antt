@@ -31,7 +31,7 @@ use Rattle.fragment_stream.specs.declared.FragmentRead.the-variants as reads
 use Rattle.fragment_stream.specs.Telling.{longestFragment, FragmentTold}
 use Rattle.fragment_stream.proofs.Longest.{fragment-longest}
 use Rattle.catch_rules.specs.Job.{lentOf, running}
-use Rattle.catch_rules.specs.Feeding.{Ends, by-bytes, MustWait, at-the-end}
+use Rattle.catch_rules.specs.Feeding.{Ends, by-bytes, MustWait, fragment-lacks, at-the-end}
 use Rattle.catch_rules.proofs.Steps.{fragment-wrong, fragment-short, run-other, bytes-behind}
 use Rattle.advances.specs.declared.Advance.{Advance}
 use Rattle.progress.specs.declared.Progress.{Progress}
@@ -69,7 +69,7 @@ module _ (c : Catalogue) (ranked ks rs os : List ℕ) (h : Held) (entries : List
     pub fragment-short-ran : x ≡ reads.More → (a : Advance) → Stays ended out at out′ a → Ran ended c h (3 ∷ bytes) out at out′ (record { advance = a; state = h .state }) (h .counters)
     fragment-short-ran e a s =
         let w : Short fragmentIn bytes longestFragment = subst (FragmentTold bytes) e told in
-        record { advances = stays (running c h) (3 ∷ bytes) out at out′ a (omega (arith, w .few)) ended s (fragment-short c h bytes (w .ended)); still-passes = lent .passes }
+        record { advances = stays (running c h) (3 ∷ bytes) out at out′ a (omega (arith, w .few)) ended s (fragment-lacks c h bytes (w .ended)) (fragment-short c h bytes (w .ended)); still-passes = lent .passes }
 
   -- neither 03 nor 05
   pub other-ran : (code : ℕ) → (code ≡ 3 → ⊥) → (code ≡ 5 → ⊥) → (a : Advance) → Refuses 20 out at out′ a → Ran ended c h (code ∷ bytes) out at out′ (record { advance = a; state = h .state }) (h .counters)

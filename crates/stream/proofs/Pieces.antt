@@ -1,6 +1,6 @@
 -- Bytes taken from a stream: where they are there, where they are not, and whatever follows.
 -- Assumes nothing.
-use mathlib.Core.Path.{_≡_, refl, sym, ap, _∙_}
+use mathlib.Core.Path.{_≡_, sym, ap, _∙_}
 use mathlib.Core.Bool.{Bool, true, false}
 use mathlib.Core.List.{List, [], _++_, append-nil}
 use Prim.Native.Nat.{ℕ, _+_, _-_, _<_, _≤_}
@@ -11,7 +11,7 @@ use lib.Seq.{take-append-le, drop-append-le, length-take-le, take-add, drop-at, 
 use borrow.Author.Tests.{leb-true, leb-false, le-leb, lt-leb}
 use Rattle.lists.specs.Cut.{window}
 use Rattle.lists.proofs.Cases.{by-test}
-use Rattle.stream.specs.Operands.{Parsed, parsed, wrong, _followedBy_, bytesIn}
+use Rattle.stream.specs.Operands.{Parsed, parsed, wrong, short, _followedBy_, bytesIn}
 use Rattle.stream.specs.Commands.{provided}
 
 -- what holds whatever follows holds where nothing follows
@@ -20,6 +20,9 @@ here f g b d h = ap f (sym (append-nil b)) ∙ h [] ∙ ap g (append-nil d)
 
 pub not-wrong : {A C : Type 0} {a : A} {rest : List ℕ} → wrong ≡ parsed a rest → C
 not-wrong e = let z : _≡_ {A = ℕ} 0 1 = cc in absurd (omega arith)
+
+pub not-short : {A C : Type 0} {a : A} {rest : List ℕ} → short ≡ parsed a rest → C
+not-short e = let z : _≡_ {A = ℕ} 0 1 = cc in absurd (omega arith)
 
 -- k bytes behind m of the first m + k
 pub drop-take : (m k : ℕ) (b : List ℕ) → m ≤ length b → drop m (take (m + k) b) ≡ window b m k
@@ -43,27 +46,25 @@ pub bytes-in : (n : ℕ) (b more : List ℕ) → n ≤ length b → bytesIn n (b
 bytes-in n b more h =
     bytes-there n (b ++ more) (simp length-append (omega arith)) ∙ ap (λ l. parsed l (drop n (b ++ more))) (take-append-le n b more h) ∙ ap (λ l. parsed (take n b) l) (drop-append-le n b more h)
 
-pub bytes-lacking : (n : ℕ) (b : List ℕ) → length b < n → bytesIn n b ≡ wrong
+pub bytes-lacking : (n : ℕ) (b : List ℕ) → length b < n → bytesIn n b ≡ short
 bytes-lacking n b h = rw (lt-leb n (length b) h)
 
 module _ {A B : Type 0} (p : Parsed A) (next : A → List ℕ → Parsed B) where
   pub behind-wrong : p ≡ wrong → (p followedBy next) ≡ wrong
   behind-wrong e = ap (λ q. q followedBy next) e
 
+  pub behind-short : p ≡ short → (p followedBy next) ≡ short
+  behind-short e = ap (λ q. q followedBy next) e
+
   pub behind-parsed : (a : A) (rest : List ℕ) → p ≡ parsed a rest → (p followedBy next) ≡ next a rest
   behind-parsed a rest e = ap (λ q. q followedBy next) e
-
--- where what follows is wrong whatever was read
-pub always-wrong : {A B : Type 0} (p : Parsed A) (next : A → List ℕ → Parsed B) → ((a : A) (rest : List ℕ) → next a rest ≡ wrong) → (p followedBy next) ≡ wrong
-always-wrong (parsed a rest) next h = h a rest
-always-wrong wrong next h = refl
 
 -- where something was read behind bytes, these were there
 pub bytes-were : {B : Type 0} (n : ℕ) (b : List ℕ) (next : List ℕ → List ℕ → Parsed B) (a : B) (rest : List ℕ) → (bytesIn n b followedBy next) ≡ parsed a rest → (n ≤ length b) × (next (take n b) (drop n b) ≡ parsed a rest)
 bytes-were n b next a rest e =
     by-test (leb n (length b))
     (λ t. let h = leb-true n (length b) t in (h, sym (behind-parsed (bytesIn n b) next (take n b) (drop n b) (bytes-there n b h)) ∙ e))
-    (λ t. not-wrong (sym (behind-wrong (bytesIn n b) next (bytes-lacking n b (leb-false n (length b) t))) ∙ e))
+    (λ t. not-short (sym (behind-short (bytesIn n b) next (bytes-lacking n b (leb-false n (length b) t))) ∙ e))
 
 -- ---- two pieces, the one behind the other
 
@@ -71,16 +72,13 @@ abbrev pub twoIn : {B : Type 0} → ℕ → ℕ → List ℕ → (List ℕ → L
 twoIn n k bytes next = bytesIn n bytes followedBy λ x rest. bytesIn k rest followedBy λ y. next x y
 
 module _ {B : Type 0} (next : List ℕ → List ℕ → List ℕ → Parsed B) where
-  pub two-wrong : (n k : ℕ) (bytes : List ℕ) → ((x y rest : List ℕ) → next x y rest ≡ wrong) → twoIn n k bytes next ≡ wrong
-  two-wrong n k bytes h = always-wrong (bytesIn n bytes) _ (λ x rest. always-wrong (bytesIn k rest) _ (λ y behind. h x y behind))
-
-  pub two-lacking : (n k : ℕ) (b : List ℕ) → length b < n + k → twoIn n k b next ≡ wrong
+  pub two-lacking : (n k : ℕ) (b : List ℕ) → length b < n + k → twoIn n k b next ≡ short
   two-lacking n k b h =
       by-test (leb n (length b))
       (λ t. let l = leb-true n (length b) t in
       behind-parsed (bytesIn n b) (λ x rest. bytesIn k rest followedBy λ y. next x y) (take n b) (drop n b) (bytes-there n b l)
-      ∙ behind-wrong (bytesIn k (drop n b)) (λ y. next (take n b) y) (bytes-lacking k (drop n b) (simp length-drop (omega arith))))
-      (λ t. behind-wrong (bytesIn n b) (λ x rest. bytesIn k rest followedBy λ y. next x y) (bytes-lacking n b (leb-false n (length b) t)))
+      ∙ behind-short (bytesIn k (drop n b)) (λ y. next (take n b) y) (bytes-lacking k (drop n b) (simp length-drop (omega arith))))
+      (λ t. behind-short (bytesIn n b) (λ x rest. bytesIn k rest followedBy λ y. next x y) (bytes-lacking n b (leb-false n (length b) t)))
 
   -- from place s on
   pub two-in : (b more : List ℕ) (s n k : ℕ) → s + n + k ≤ length b → twoIn n k (drop s b ++ more) next ≡ next (window b s n) (window b (s + n) k) (drop (s + n + k) b ++ more)

@@ -15,7 +15,7 @@ use Rattle.audit_codes.specs.Codes.{isMark, isSet, modeOf}
 use Rattle.stream.specs.Operands.{Parsed, parsed, bytesIn, littleEndian}
 use Rattle.stream.specs.Commands.{provided, settingsOf, settingsIn}
 use Rattle.stream.specs.Telling.{Read, Refused, Short}
-use Rattle.stream.proofs.Pieces.{drop-take, granted, denied, bytes-in, bytes-lacking, behind-parsed, behind-wrong}
+use Rattle.stream.proofs.Pieces.{drop-take, granted, denied, bytes-in, bytes-lacking, behind-parsed, behind-short}
 
 -- settings by their parts
 abbrev settings : AuditInputMode → ℕ → ℕ → ℕ → Settings
@@ -27,7 +27,7 @@ next h = provided (isMark (getD h 0 0) && isMark (getD h 1 0)) (settingsOf h)
 
 module _ (b : List ℕ) where
   pub settings-short : length b < 11 → Short settingsIn b 11
-  settings-short h = record { ended = behind-wrong (bytesIn 11 b) next (bytes-lacking 11 b h); few = h }
+  settings-short h = record { ended = behind-short (bytesIn 11 b) next (bytes-lacking 11 b h); few = h }
 
   module _ (h : 11 ≤ length b) where
     marks : (isMark (getD (take 11 b) 0 0) && isMark (getD (take 11 b) 1 0)) ≡ (isMark (getD b 0 0) && isMark (getD b 1 0))

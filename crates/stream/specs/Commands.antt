@@ -11,7 +11,7 @@ use Rattle.audit_rules.specs.Observing.{MateRead}
 use Rattle.audit_rules.specs.Fragment.{Fragment}
 use Rattle.audit_rules.specs.Calls.{mateOf}
 use Rattle.audit_codes.specs.Codes.{modeOf, roleOf, isRole, isMark, isSet}
-use Rattle.stream.specs.Operands.{Parsed, parsed, wrong, _followedBy_, bytesIn, littleEndian}
+use Rattle.stream.specs.Operands.{Parsed, parsed, wrong, short, _followedBy_, bytesIn, littleEndian}
 
 -- ---- bounds
 
@@ -66,12 +66,15 @@ targetFits topology name count targets held = isMark topology && leb 1 name && l
 abbrev pub targetRight : Catalogue → List ℕ → Bool
 targetRight c h = targetFits (getD h 0 0) (getD h 1 0) (littleEndian (drop 2 h)) (length (c .marks)) (length (c .bases))
 
+-- the head is judged first, and the identifier once all is there
 abbrev pub targetIn : Catalogue → List ℕ → Parsed Catalogue
 targetIn c bytes =
     bytesIn 6 bytes followedBy λ h rest.
-    bytesIn (getD h 1 0) rest followedBy λ identifier behind.
+    cond (targetRight c h)
+    (bytesIn (getD h 1 0) rest followedBy λ identifier behind.
     bytesIn (littleEndian (drop 2 h)) behind followedBy λ bases.
-    provided (targetRight c h && every isNameByte identifier) (withTarget c (getD h 0 0) identifier bases)
+    provided (every isNameByte identifier) (withTarget c (getD h 0 0) identifier bases))
+    wrong
 
 -- ---- 04: role, quality mark, length of 4 bytes, bases, qualities where the mark is 1
 
@@ -89,17 +92,19 @@ readFits role mark count = isRole role && isMark mark && leb count maxStreamRead
 abbrev pub readRight : List ℕ → Bool
 readRight h = readFits (getD h 0 0) (getD h 1 0) (littleEndian (drop 2 h))
 
--- what stands behind the code
+-- what stands behind the code, the head judged first
 abbrev pub readOperands : List ℕ → Parsed MateRead
 readOperands bytes =
     bytesIn 6 bytes followedBy λ h rest.
-    bytesIn (littleEndian (drop 2 h)) rest followedBy λ bases behind.
+    cond (readRight h)
+    (bytesIn (littleEndian (drop 2 h)) rest followedBy λ bases behind.
     bytesIn (qualityCount h) behind followedBy λ qualities.
-    provided (readRight h) (mateOf (roleOf (getD h 0 0)) bases (isSet (getD h 1 0)) qualities)
+    parsed (mateOf (roleOf (getD h 0 0)) bases (isSet (getD h 1 0)) qualities))
+    wrong
 
 -- with the code
 abbrev pub readIn : List ℕ → Parsed MateRead
-readIn [] = wrong
+readIn [] = short
 readIn (code ∷ bytes) = cond (eqb code 4) (readOperands bytes) wrong
 
 -- ---- 03: ordinal of 8 bytes, read count, and as many 04s

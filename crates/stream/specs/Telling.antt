@@ -10,7 +10,7 @@ use Rattle.stream.specs.declared.SettingsRead.the-variants as settings
 use Rattle.stream.specs.declared.TargetRead.{TargetRead}
 use Rattle.stream.specs.declared.TargetRead.the-variants as targets
 use Rattle.stream.specs.declared.TargetHead.{TargetHead}
-use Rattle.stream.specs.Operands.{Parsed, parsed, wrong}
+use Rattle.stream.specs.Operands.{Parsed, parsed, wrong, short}
 use Rattle.stream.specs.Commands.{maxStreamTargets, maxStreamBases, settingsIn, withTarget, targetIn}
 
 -- ---- three ways to be told
@@ -25,9 +25,9 @@ module _ {A : Type 0} (parser : List ℕ → Parsed A) (bytes : List ℕ) where
   abbrev pub Refused : Type 0
   Refused = (more : List ℕ) → parser (bytes ++ more) ≡ wrong
 
-  -- more is needed: a stream that ends here is refused, and there are fewer bytes than the longest can have
+  -- more is needed: the bytes end before it is whole, and there are fewer than the longest can have
   pub record Short (most : ℕ) : Type 0 where
-    pub ended : parser bytes ≡ wrong
+    pub ended : parser bytes ≡ short
     pub few : length bytes < most
 
 -- ---- commands

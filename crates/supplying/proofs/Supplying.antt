@@ -24,7 +24,7 @@ use Rattle.stream.specs.Telling.{SettingsTold, targetAt, TargetWithin, TargetTo
 use Rattle.supplies.specs.declared.Supply.{Supply}
 use Rattle.supplies.specs.Supplied.{suppliedIn, moreSupply}
 use Rattle.catch_rules.specs.Job.{noTargets, lentOf, beginning, supplying, running}
-use Rattle.catch_rules.specs.Feeding.{Goes}
+use Rattle.catch_rules.specs.Feeding.{Goes, by-bytes, by-opening, settings-lack, target-lacks}
 use Rattle.catch_rules.proofs.Steps.{begin-read, begin-wrong, begin-short, begin-other, supply-read, supply-wrong, supply-short, supply-other, opening-refuses, opening-accepts}
 use Rattle.job_opening.specs.Opened.{JobOpens}
 use Rattle.job_opening.specs.declared.Indexed.{Indexed}
@@ -32,7 +32,6 @@ use Rattle.job_opening.specs.declared.JobOpening.{JobOpening}
 use Rattle.job_opening.specs.declared.JobOpening.the-variants as openings
 use Rattle.advances.specs.declared.Advance.{Advance}
 use Rattle.advances.specs.Advancing.{WentOn, Advances, Refuses, Stays}
-use Rattle.catch_rules.specs.Feeding.{by-bytes, by-opening}
 use Rattle.advances.proofs.Advancing.{refuses, stays, goes-on}
 use Rattle.supplying.specs.Supplying.{went, SupplyKept, OpensAt}
 use Rattle.supplying.specs.declared.Opened.the-variants as opened
@@ -59,7 +58,7 @@ module _ (ended : Bool) (code : ℕ) (bytes out : List ℕ) (at : ℕ) where
       pub begin-stays : answer ≡ settings.More → Stays ended out at out′ r → Advances ended beginning (code ∷ bytes) out at out′ r beginning
       begin-stays e f =
           let p = as-read settings.More e in
-          rw is (stays beginning (1 ∷ bytes) out at out′ r (omega (arith, p .few)) ended f (begin-short bytes (p .ended)))
+          rw is (stays beginning (1 ∷ bytes) out at out′ r (omega (arith, p .few)) ended f (settings-lack bytes (p .ended)) (begin-short bytes (p .ended)))
 
 -- ---- 02
 
@@ -88,7 +87,7 @@ module _ (held : Supply) (is ies bs bes ms : List ℕ) (kept : SupplyKept held i
     pub supply-stays : answer ≡ targets.More → Stays ended out at out′ r → (s : Settings) → Advances ended (supplying s c) (2 ∷ bytes) out at out′ r (supplying s c)
     supply-stays e f s =
         let p = as-told targets.More e in
-        stays (supplying s c) (2 ∷ bytes) out at out′ r (omega (arith, p .few)) ended f (supply-short s c bytes (p .ended))
+        stays (supplying s c) (2 ∷ bytes) out at out′ r (omega (arith, p .few)) ended f (target-lacks s c bytes (p .ended)) (supply-short s c bytes (p .ended))
 
   module _ (h : TargetHead) (read : answer ≡ targets.Read h) where
     -- all its bytes are there

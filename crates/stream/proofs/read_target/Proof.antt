@@ -72,7 +72,7 @@ returns-3 : tie.Need-returns-3
 returns-3 c =
     λ k m h.
     let a = c .before .before .before .before .before .before .before .before .before .args in
-    target-short k (a .bytes .now) _ _ (number (c .before)) (a .targets) (a .held) m h (omega arith) refl refl (c .before .before .before .little-endian .ensures) (omega arith) (omega (arith, few (c .before)))
+    target-short k (a .bytes .now) _ _ (number (c .before)) (a .targets) (a .held) m h (omega arith) refl refl (c .before .before .before .little-endian .ensures) (fits (c .before)) (omega arith) (omega (arith, few (c .before)))
 
 add-is-name : tie.Need-add-is-name
 add-is-name c = search needs
@@ -93,7 +93,7 @@ returns-4 : tie.Need-returns-4
 returns-4 c =
     λ k m h.
     let a = c .before .before .before .before .before .before .before .before .before .before .before .before .args in
-    target-misnamed k (a .bytes .now) _ _ (number (c .before .before .before .before)) (a .targets) (a .held) m h (omega arith) refl refl (c .before .before .before .before .before .before .little-endian .ensures) (omega arith) (fits (c .before .before .before .before)) (6 + getD (a .bytes .now) 1 0 - 6) (omega arith) (sym (c .before .is-name .ensures) ∙ not-true _ (c .if4 .taken))
+    target-misnamed k (a .bytes .now) _ _ (number (c .before .before .before .before)) (a .targets) (a .held) m h (omega arith) refl refl (c .before .before .before .before .before .before .little-endian .ensures) (fits (c .before .before .before .before)) (omega arith) (6 + getD (a .bytes .now) 1 0 - 6) (omega arith) (sym (c .before .is-name .ensures) ∙ not-true _ (c .if4 .taken))
 
 returns-5 : tie.Need-returns-5
 returns-5 c =
@@ -101,7 +101,7 @@ returns-5 c =
     let a = c .before .before .before .before .before .before .before .before .before .before .before .before .args in
     let e = c .before .before .before .before in
     let l = getD (a .bytes .now) 1 0 in
-    (target-read k (a .bytes .now) (getD (a .bytes .now) 0 0) l (number e) (a .targets) (a .held) m h (omega arith) refl refl (e .before .before .little-endian .ensures) (omega arith) (fits e) (6 + l - 6) (omega arith) (sym (c .before .is-name .ensures) ∙ not-false _ (c .if4 .left)), target-within k (a .bytes .now) (getD (a .bytes .now) 0 0) l (number e) (a .targets) (a .held) m h (omega arith) refl refl (e .before .before .little-endian .ensures) (omega arith) (fits e) (6 + l - 6) (omega arith) (few e .0))
+    (target-read k (a .bytes .now) (getD (a .bytes .now) 0 0) l (number e) (a .targets) (a .held) m h (omega arith) refl refl (e .before .before .little-endian .ensures) (fits e) (omega arith) (6 + l - 6) (omega arith) (sym (c .before .is-name .ensures) ∙ not-false _ (c .if4 .left)), target-within k (a .bytes .now) (getD (a .bytes .now) 0 0) l (number e) (a .targets) (a .held) m h (omega arith) refl refl (e .before .before .little-endian .ensures) (fits e) (few e .0))
 
 pub read-target-spec : {M : Type 1} → statement M
 read-target-spec =
