@@ -7,7 +7,7 @@ use lib.ListN.{length}
 use borrow.Author.Tests.{le-leb, lt-leb}
 use Rattle.promises.specs.Refusal.{Outcome, numberOf, outcome}
 use Rattle.promises.proofs.Refusing.{number-is}
-use Rattle.catalogue.specs.Catalogue.{Catalogue, mapped}
+use Rattle.catalogue.specs.Catalogue.{Catalogue}
 use Rattle.seeds.specs.Seeds.{keysOf, ranksOf, positionsOf, placed}
 use Rattle.index.specs.Index.{index, planRefusal, buildRefusal}
 use Rattle.planning.specs.Answers.{planOutcome, planned}
@@ -20,77 +20,62 @@ use Rattle.answers.specs.declared.answer.MapAnswer.{MapAnswer}
 use Rattle.indexed_mapper.specs.Map.{mapRefusal, MapsTo}
 use Rattle.rows.specs.Rows.{rowNumbers}
 use Rattle.replies.specs.Replies.{planNumbers, buildNumbers, Put}
-use Rattle.exports.specs.Exports.{exportRefusal, answered, ExportsPlan, ExportsBuild, ExportsMap}
+use Rattle.exports.specs.Exports.{ExportsPlan, ExportsBuild, ExportsMap}
 
--- ---- the buffer of the answer
-
-module _ (n : ℕ) (answer : List ℕ) (m : ℕ) where
-  refused-short : length answer < n → 26 ≡ exportRefusal n answer m
-  unfolding exportRefusal
-  refused-short h = rw (lt-leb n (length answer) h)
-
-  refused-room : n ≤ length answer → m ≡ exportRefusal n answer m
-  unfolding exportRefusal
-  refused-room h = rw (le-leb n (length answer) h)
-
-module _ (n : ℕ) (xs answer : List ℕ) where
-  answered-short : length answer < n → answer ≡ answered n xs answer
-  unfolding answered
-  answered-short h = rw (lt-leb n (length answer) h)
-
-  answered-room : n ≤ length answer → placed 0 xs answer ≡ answered n xs answer
-  unfolding answered
-  answered-room h = rw (le-leb n (length answer) h)
-
--- the outcome of a call behind it, written into a buffer with room
-module _ {A : Type 0} (n : ℕ) (answer : List ℕ) (room : n ≤ length answer) (numbers : Outcome A → List ℕ) (refusal : ℕ) (a : A) (o : Outcome A) (e : o ≡ outcome refusal a) (r : ℕ) (answer′ : List ℕ) (w : Put numbers o r answer answer′) where
+-- the outcome of a call behind it, as it is written
+module _ {A : Type 0} (numbers : Outcome A → List ℕ) (refusal : ℕ) (a : A) (o : Outcome A) (e : o ≡ outcome refusal a) (r : ℕ) (answer answer′ : List ℕ) (w : Put numbers o r answer answer′) where
   put-number : r ≡ refusal
   put-number = w .number ∙ ap numberOf e ∙ number-is refusal a
 
-  put-told : r ≡ exportRefusal n answer refusal
-  put-told = put-number ∙ refused-room n answer refusal room
-
-  put-numbers : answer′ ≡ answered n (numbers (outcome refusal a)) answer
-  put-numbers = w .written ∙ ap (λ x. placed 0 (numbers x) answer) e ∙ answered-room n (numbers (outcome refusal a)) answer room
+  put-numbers : answer′ ≡ placed 0 (numbers (outcome refusal a)) answer
+  put-numbers = w .written ∙ ap (λ x. placed 0 (numbers x) answer) e
 
 -- ---- plan
 
 module _ (q : ℕ) (c : Catalogue) (answer : List ℕ) where
   pub plan-short : length answer < 3 → ExportsPlan q c 26 answer answer
-  plan-short h = record { number = refused-short 3 answer (planRefusal q c) h; numbers = answered-short 3 _ answer h }
+  unfolding ExportsPlan
+  plan-short h = rw (lt-leb 3 (length answer) h) (record { number = refl; numbers = refl })
 
   pub plan-room : 3 ≤ length answer → (p : IndexPlan) → planOutcome p ≡ planned q c → (r : ℕ) (answer′ : List ℕ) → Put planNumbers (planOutcome p) r answer answer′ → ExportsPlan q c r answer answer′
-  plan-room h p e r answer′ w = record { number = put-told 3 answer h planNumbers (planRefusal q c) (record { targets = length (mapped c); postings = length (index q c) }) _ e r answer′ w; numbers = put-numbers 3 answer h planNumbers (planRefusal q c) (record { targets = length (mapped c); postings = length (index q c) }) _ e r answer′ w }
+  unfolding ExportsPlan
+  plan-room h p e r answer′ w = rw (le-leb 3 (length answer) h) (record { number = put-number planNumbers _ _ _ e r answer answer′ w; numbers = put-numbers planNumbers (planRefusal q c) _ _ e r answer answer′ w })
 
 -- ---- build
 
 module _ (q : ℕ) (c : Catalogue) (answer ks rs os : List ℕ) where
   pub build-short : length answer < 2 → ExportsBuild q c 26 answer ks rs os answer ks rs os
-  build-short h = record { number = refused-short 2 answer _ h; numbers = answered-short 2 _ answer h; keys = refl; ranks = refl; positions = refl }
+  unfolding ExportsBuild
+  build-short h = rw (lt-leb 2 (length answer) h) (record { number = refl; numbers = refl; keys = refl; ranks = refl; positions = refl })
 
   pub build-room : 2 ≤ length answer → (b : Built) (ks′ rs′ os′ : List ℕ) → BuiltAs q c b ks rs os ks′ rs′ os′ → (r : ℕ) (answer′ : List ℕ) → Put buildNumbers (builtOutcome b) r answer answer′ → ExportsBuild q c r answer ks rs os answer′ ks′ rs′ os′
+  unfolding ExportsBuild
   build-room h b ks′ rs′ os′ a r answer′ w =
-      record {
-        number = put-told 2 answer h buildNumbers (buildRefusal q c (entries ks rs os)) (length (index q c)) _ (a .answer) r answer′ w;
-        numbers = put-numbers 2 answer h buildNumbers (buildRefusal q c (entries ks rs os)) (length (index q c)) _ (a .answer) r answer′ w;
-        keys = a .keys ∙ ap (λ n. leftIn n (keysOf (index q c)) ks) same;
-        ranks = a .ranks ∙ ap (λ n. leftIn n (ranksOf (index q c)) rs) same;
-        positions = a .positions ∙ ap (λ n. leftIn n (positionsOf (index q c)) os) same;
-      }
+      rw (le-leb 2 (length answer) h)
+      (record {
+        number = same;
+        numbers = put-numbers buildNumbers (buildRefusal q c (entries ks rs os)) (length (index q c)) _ (a .answer) r answer answer′ w;
+        keys = a .keys ∙ ap (λ n. leftIn n (keysOf (index q c)) ks) (sym same);
+        ranks = a .ranks ∙ ap (λ n. leftIn n (ranksOf (index q c)) rs) (sym same);
+        positions = a .positions ∙ ap (λ n. leftIn n (positionsOf (index q c)) os) (sym same);
+      })
     where
-      same : buildRefusal q c (entries ks rs os) ≡ r
-      same = sym (put-number 2 answer h buildNumbers (buildRefusal q c (entries ks rs os)) (length (index q c)) _ (a .answer) r answer′ w)
+      same : r ≡ buildRefusal q c (entries ks rs os)
+      same = put-number buildNumbers (buildRefusal q c (entries ks rs os)) (length (index q c)) _ (a .answer) r answer answer′ w
 
 -- ---- map
 
 module _ (q : ℕ) (c : Catalogue) (ks rs os read : List ℕ) (limit : ℕ) (answer buffer : List ℕ) where
   pub map-short : length answer < 8 → ExportsMap q c ks rs os read limit 26 answer buffer answer buffer
-  map-short h = record { number = refused-short 8 answer _ h; numbers = answered-short 8 _ answer h; entries = rw (lt-leb 8 (length answer) h) }
+  unfolding ExportsMap
+  map-short h = rw (lt-leb 8 (length answer) h) (record { number = refl; numbers = refl; entries = refl })
 
   pub map-room : 8 ≤ length answer → (m : MapAnswer) (buffer′ : List ℕ) → MapsTo q c ks rs os read limit m buffer buffer′ → (r : ℕ) (answer′ : List ℕ) → Put rowNumbers (answerOf m) r answer answer′ → ExportsMap q c ks rs os read limit r answer buffer answer′ buffer′
+  unfolding ExportsMap
   map-room h m buffer′ a r answer′ w =
-      record {
-        number = put-told 8 answer h rowNumbers (mapRefusal q c ks rs os read limit (entryCount buffer)) _ _ (a .answer) r answer′ w;
-        numbers = put-numbers 8 answer h rowNumbers (mapRefusal q c ks rs os read limit (entryCount buffer)) _ _ (a .answer) r answer′ w;
-        entries = rw (le-leb 8 (length answer) h) (a .entries);
-      }
+      rw (le-leb 8 (length answer) h)
+      (record {
+        number = put-number rowNumbers (mapRefusal q c ks rs os read limit (entryCount buffer)) _ _ (a .answer) r answer answer′ w;
+        numbers = put-numbers rowNumbers (mapRefusal q c ks rs os read limit (entryCount buffer)) _ _ (a .answer) r answer answer′ w;
+        entries = a .entries;
+      })

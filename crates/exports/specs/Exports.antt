@@ -1,11 +1,10 @@
 -- What the exported calls return and write (REFERENCE.md, "Exports").
 use mathlib.Core.Path.{_≡_}
-use mathlib.Core.Bool.{cond}
 use mathlib.Core.List.{List}
 use Prim.Native.Nat.{ℕ}
 use lib.ListN.{length}
 use lib.Dec.{leb}
-use Rattle.promises.specs.Refusal.{unless, _orElse_, outcome}
+use Rattle.promises.specs.Refusal.{IfRight, outcome}
 use Rattle.catalogue.specs.Catalogue.{Catalogue}
 use Rattle.seeds.specs.Seeds.{keysOf, ranksOf, positionsOf, placed}
 use Rattle.index.specs.Index.{index, planRefusal, buildRefusal}
@@ -16,30 +15,60 @@ use Rattle.indexed_mapper.specs.Map.{mapRefusal, mapAnswer, mapEntries}
 use Rattle.rows.specs.Rows.{rowNumbers}
 use Rattle.replies.specs.Replies.{planNumbers, buildNumbers}
 
--- ---- the buffer of the answer
+-- ---- 26, and everything as it was
 
--- 26 where the buffer is shorter than n numbers, else the refusal
-unfoldable pub exportRefusal : ℕ → List ℕ → ℕ → ℕ
-exportRefusal n answer refusal = unless (leb n (length answer)) 26 orElse refusal
+-- the answer, where an index was to be planned
+pub record PlanUntouched (answer : List ℕ) (r : ℕ) (answer′ : List ℕ) : Type 0 where
+  pub number : r ≡ 26
+  pub numbers : answer′ ≡ answer
 
--- n numbers at the front of the buffer, if it has room for them
-unfoldable pub answered : ℕ → List ℕ → List ℕ → List ℕ
-answered n numbers answer = cond (leb n (length answer)) (placed 0 numbers answer) answer
+-- the answer and the columns, where an index was to be built
+pub record BuildUntouched (answer ks rs os : List ℕ) (r : ℕ) (answer′ ks′ rs′ os′ : List ℕ) : Type 0 where
+  pub number : r ≡ 26
+  pub numbers : answer′ ≡ answer
+  pub keys : ks′ ≡ ks
+  pub ranks : rs′ ≡ rs
+  pub positions : os′ ≡ os
 
--- ---- the calls: the number returned, and what each buffer holds afterwards
+-- the answer and the entries, where a read was to be mapped
+pub record MapUntouched (answer buffer : List ℕ) (r : ℕ) (answer′ buffer′ : List ℕ) : Type 0 where
+  pub number : r ≡ 26
+  pub numbers : answer′ ≡ answer
+  pub entries : buffer′ ≡ buffer
 
-pub record ExportsPlan (q : ℕ) (c : Catalogue) (r : ℕ) (answer answer′ : List ℕ) : Type 0 where
-  pub number : r ≡ exportRefusal 3 answer (planRefusal q c)
-  pub numbers : answer′ ≡ answered 3 (planNumbers (planned q c)) answer
+-- ---- the call of the same name, with its answer as numbers at the front of the buffer
 
-pub record ExportsBuild (q : ℕ) (c : Catalogue) (r : ℕ) (answer ks rs os answer′ ks′ rs′ os′ : List ℕ) : Type 0 where
-  pub number : r ≡ exportRefusal 2 answer (buildRefusal q c (entries ks rs os))
-  pub numbers : answer′ ≡ answered 2 (buildNumbers (outcome (buildRefusal q c (entries ks rs os)) (length (index q c)))) answer
+-- an index planned
+pub record PlansIn (q : ℕ) (c : Catalogue) (answer : List ℕ) (r : ℕ) (answer′ : List ℕ) : Type 0 where
+  pub number : r ≡ planRefusal q c
+  pub numbers : answer′ ≡ placed 0 (planNumbers (planned q c)) answer
+
+-- an index built
+pub record BuildsIn (q : ℕ) (c : Catalogue) (answer ks rs os : List ℕ) (r : ℕ) (answer′ ks′ rs′ os′ : List ℕ) : Type 0 where
+  pub number : r ≡ buildRefusal q c (entries ks rs os)
+  pub numbers : answer′ ≡ placed 0 (buildNumbers (outcome (buildRefusal q c (entries ks rs os)) (length (index q c)))) answer
   pub keys : ks′ ≡ leftIn r (keysOf (index q c)) ks
   pub ranks : rs′ ≡ leftIn r (ranksOf (index q c)) rs
   pub positions : os′ ≡ leftIn r (positionsOf (index q c)) os
 
-pub record ExportsMap (q : ℕ) (c : Catalogue) (ks rs os read : List ℕ) (limit r : ℕ) (answer buffer answer′ buffer′ : List ℕ) : Type 0 where
-  pub number : r ≡ exportRefusal 8 answer (mapRefusal q c ks rs os read limit (entryCount buffer))
-  pub numbers : answer′ ≡ answered 8 (rowNumbers (mapAnswer q c ks rs os read limit (entryCount buffer))) answer
-  pub entries : buffer′ ≡ cond (leb 8 (length answer)) (mapEntries q c ks rs os read limit buffer) buffer
+-- a read mapped
+pub record MapsIn (q : ℕ) (c : Catalogue) (ks rs os read : List ℕ) (limit : ℕ) (answer buffer : List ℕ) (r : ℕ) (answer′ buffer′ : List ℕ) : Type 0 where
+  pub number : r ≡ mapRefusal q c ks rs os read limit (entryCount buffer)
+  pub numbers : answer′ ≡ placed 0 (rowNumbers (mapAnswer q c ks rs os read limit (entryCount buffer))) answer
+  pub entries : buffer′ ≡ mapEntries q c ks rs os read limit buffer
+
+-- ---- the exported calls: the call, where the answer has room for its numbers, or 26
+
+-- a plan, of three numbers
+unfoldable pub ExportsPlan : ℕ → Catalogue → ℕ → List ℕ → List ℕ → Type 0
+ExportsPlan q c r answer answer′ = IfRight (leb 3 (length answer)) (PlansIn q c answer r answer′) (PlanUntouched answer r answer′)
+
+-- a build, of two numbers
+unfoldable pub ExportsBuild : ℕ → Catalogue → ℕ → List ℕ → List ℕ → List ℕ → List ℕ → List ℕ → List ℕ → List ℕ → List ℕ → Type 0
+ExportsBuild q c r answer ks rs os answer′ ks′ rs′ os′ =
+    IfRight (leb 2 (length answer)) (BuildsIn q c answer ks rs os r answer′ ks′ rs′ os′) (BuildUntouched answer ks rs os r answer′ ks′ rs′ os′)
+
+-- a mapping, of eight numbers
+unfoldable pub ExportsMap : ℕ → Catalogue → List ℕ → List ℕ → List ℕ → List ℕ → ℕ → ℕ → List ℕ → List ℕ → List ℕ → List ℕ → Type 0
+ExportsMap q c ks rs os read limit r answer buffer answer′ buffer′ =
+    IfRight (leb 8 (length answer)) (MapsIn q c ks rs os read limit answer buffer r answer′ buffer′) (MapUntouched answer buffer r answer′ buffer′)

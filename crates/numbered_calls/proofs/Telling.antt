@@ -71,18 +71,21 @@ module _ (mode remap : ℕ) (ns : List ℕ) where
 
 module _ (c : Catalogue) (lent : IndexLent) (k : Counters) (mode remap floor limit : ℕ) (ns : List ℕ) where
   pub open-wrong : openRight mode remap ns ≡ false → OpensNumbers c lent k mode remap floor limit ns 26 k ns
-  open-wrong t = record { number = rw t; state = rw t; counters = rw t }
+  unfolding OpensNumbers
+  open-wrong t = rw t (record { number = refl; state = refl; counters = refl })
 
   pub open-told : openRight mode remap ns ≡ true → (m : AuditInputMode) → m ≡ modeOf mode → (o : Opening) (k′ : Counters)
       → Opens auditSeed auditOffset c lent (record { mode = m; remap = isSet remap; floor = floor; limit = limit }) k o k′
       → (r : ℕ) → r ≡ numberOf (callOutcome (o .answer)) → (ns′ : List ℕ) → ns′ ≡ stateNumbers (o .state) → OpensNumbers c lent k mode remap floor limit ns r k′ ns′
+  unfolding OpensNumbers
   open-told t m e o k′ a r n ns′ w =
       let b : Opens auditSeed auditOffset c lent (codedSettings mode remap floor limit) k o k′ = rw e at a in
-      record {
-        number = rw t (n ∙ told-number _ _ _ (b .answer));
-        state = rw t (w ∙ ap (λ (h : Held). stateNumbers (h .state)) (b .held));
-        counters = rw t (ap (λ (h : Held). h .counters) (b .held));
-      }
+      rw t
+      (record {
+        number = n ∙ told-number _ _ _ (b .answer);
+        state = w ∙ ap (λ (h : Held). stateNumbers (h .state)) (b .held);
+        counters = ap (λ (h : Held). h .counters) (b .held);
+      })
 
 -- ---- fragment
 
@@ -120,7 +123,8 @@ module _ (f : CodedFragment) (ns answer : List ℕ) where
 
 module _ (c : Catalogue) (lent : IndexLent) (k : Counters) (f : CodedFragment) (ns answer entries : List ℕ) where
   fragment-wrong : fragmentRight f ns answer ≡ false → AuditsNumbers c lent k f ns answer entries 26 k ns answer entries
-  fragment-wrong t = record { number = rw t; state = rw t; counters = rw t; told = rw t; left = rw t }
+  unfolding AuditsNumbers
+  fragment-wrong t = rw t (record { number = refl; state = refl; counters = refl; told = refl; left = refl })
 
   pub fragment-short : length answer < 16 → AuditsNumbers c lent k f ns answer entries 26 k ns answer entries
   fragment-short h = fragment-wrong (short-answer f ns answer h)
@@ -144,16 +148,17 @@ module _ (c : Catalogue) (lent : IndexLent) (k : Counters) (f : CodedFragment) (
             entries a k′ entries′
             → (ns′ : List ℕ) → ns′ ≡ stateNumbers (a .state) → (answer′ : List ℕ) → answer′ ≡ placed 0 (outcomeRows 2 (fragmentOutcome (a .answer))) answer
             → (r : ℕ) → r ≡ getD answer′ 0 0 → AuditsNumbers c lent k f ns answer entries r k′ ns′ answer′ entries′
+        unfolding AuditsNumbers
         fragment-told st s es first second e₁ e₂ a k′ entries′ g ns′ w answer′ v r n =
-            let t = by-state f ns answer room one two true st in
             let b : Audits auditSeed auditOffset c lent (heldIn ns k) (fragmentIn f) entries a k′ entries′ = rw (es, e₁, e₂) at g in
-            record {
-              number = rw t (number-told (a .answer) _ _ answer answer′ r (b .answer) v n);
-              state = rw t (w ∙ ap (λ (h : Held). stateNumbers (h .state)) (b .held));
-              counters = rw t (ap (λ (h : Held). h .counters) (b .held));
-              told = rw t (rows-told _ _ answer answer′ v (b .answer));
-              left = rw t (b .left);
-            }
+            rw (by-state f ns answer room one two true st)
+            (record {
+              number = number-told (a .answer) _ _ answer answer′ r (b .answer) v n;
+              state = w ∙ ap (λ (h : Held). stateNumbers (h .state)) (b .held);
+              counters = ap (λ (h : Held). h .counters) (b .held);
+              told = rows-told _ _ answer answer′ v (b .answer);
+              left = b .left;
+            })
 
 -- ---- finish
 
@@ -166,25 +171,26 @@ module _ (ns answer : List ℕ) where
 
 module _ (c : Catalogue) (lent : IndexLent) (k : Counters) (ns answer : List ℕ) where
   pub finish-wrong : finishRight ns answer ≡ false → FinishesNumbers c lent k ns answer 26 answer
-  finish-wrong t = record { number = rw t; told = rw t }
+  unfolding FinishesNumbers
+  finish-wrong t = rw t (record { number = refl; told = refl })
 
   pub finish-told : finishRight ns answer ≡ true → (s : AuditState) → s ≡ stateIn ns → (a : Finish) → Finishes auditSeed auditOffset c lent (record { state = s; counters = k }) a
       → (r : ℕ) (answer′ : List ℕ) → Put finishNumbers (finishOutcome a) r answer answer′ → FinishesNumbers c lent k ns answer r answer′
+  unfolding FinishesNumbers
   finish-told t s es a g r answer′ w =
       let b : Finishes auditSeed auditOffset c lent (heldIn ns k) a = rw es at g in
       let e = finish-outcome auditSeed auditOffset c lent (heldIn ns k) a b in
-      record {
-        number = rw t (w .number ∙ told-number _ _ _ e);
-        told = rw t (w .written ∙ ap (λ o. placed 0 (finishNumbers o) answer) e);
-      }
+      rw t (record { number = w .number ∙ told-number _ _ _ e; told = w .written ∙ ap (λ o. placed 0 (finishNumbers o) answer) e })
 
 -- ---- apply
 
 module _ (audited c : Catalogue) (k : Counters) (ns rows : List ℕ) where
   pub apply-wrong : isSheet ns ≡ false → AppliesNumbers audited c k ns rows 26 rows
-  apply-wrong t = record { number = rw t; left = rw t }
+  unfolding AppliesNumbers
+  apply-wrong t = rw t (record { number = refl; left = refl })
 
   pub apply-told : isSheet ns ≡ true → (s : Sheet) → s ≡ sheetIn ns → (a : CallAnswer) (rows′ : List ℕ) → Applies audited c s k rows a rows′ → (r : ℕ) → r ≡ numberOf (callOutcome a) → AppliesNumbers audited c k ns rows r rows′
+  unfolding AppliesNumbers
   apply-told t s es a rows′ g r n =
       let b : Applies audited c (sheetIn ns) k rows a rows′ = rw es at g in
-      record { number = rw t (n ∙ told-number _ _ _ (b .answer)); left = rw t (b .left) }
+      rw t (record { number = n ∙ told-number _ _ _ (b .answer); left = b .left })

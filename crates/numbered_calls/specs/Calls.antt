@@ -1,17 +1,18 @@
 -- The calls of an audit on numbers: what each returns, and what each buffer holds afterwards (REFERENCE.md, "Exports").
 use mathlib.Core.Path.{_≡_}
-use mathlib.Core.Bool.{Bool, cond, _&&_}
+use mathlib.Core.Bool.{Bool, _&&_}
 use mathlib.Core.List.{List}
 use Prim.Native.Nat.{ℕ}
 use lib.ListN.{length}
 use lib.Dec.{eqb, leb}
-use Rattle.promises.specs.Refusal.{unless, _orElse_}
+use Rattle.promises.specs.Refusal.{IfRight}
 use Rattle.promises.specs.Slice.{Slice, old}
 use Rattle.catalogue.specs.Catalogue.{Catalogue}
 use Rattle.seeds.specs.Seeds.{placed}
 use Rattle.scan.specs.Entries.{entryCount}
 use Rattle.ledger.specs.Booking.{Counters}
 use Rattle.audit_rules.specs.declared.settings.Settings.{Settings}
+use Rattle.audit_rules.specs.declared.sheet.Sheet.{Sheet}
 use Rattle.audit_rules.specs.Settings.{Held, auditSeed, auditOffset}
 use Rattle.audit_rules.specs.Opening.{IndexLent, openingRefusal, openingHeld}
 use Rattle.audit_rules.specs.Observing.{MateRead}
@@ -78,34 +79,90 @@ fragmentRight f ns answer = leb 16 (length answer) && codesRight (f .first) && c
 abbrev pub finishRight : List ℕ → List ℕ → Bool
 finishRight ns answer = leb finishLength (length answer) && isState ns
 
--- ---- the calls: 26 first, and then nothing is written
+-- ---- 26, and everything as it was
+
+-- the state and the counters, where an audit was to be opened
+pub record OpenUntouched (k : Counters) (ns : List ℕ) (r : ℕ) (k′ : Counters) (ns′ : List ℕ) : Type 0 where
+  pub number : r ≡ 26
+  pub state : ns′ ≡ ns
+  pub counters : k′ ≡ k
+
+-- the state, the counters, the rows and the entries, where a fragment or many were to be audited
+pub record AuditUntouched (k : Counters) (ns rows entries : List ℕ) (r : ℕ) (k′ : Counters) (ns′ rows′ entries′ : List ℕ) : Type 0 where
+  pub number : r ≡ 26
+  pub state : ns′ ≡ ns
+  pub counters : k′ ≡ k
+  pub told : rows′ ≡ rows
+  pub left : entries′ ≡ entries
+
+-- the answer, where an audit was to be finished
+pub record FinishUntouched (answer : List ℕ) (r : ℕ) (answer′ : List ℕ) : Type 0 where
+  pub number : r ≡ 26
+  pub told : answer′ ≡ answer
+
+-- the rows, where a sheet was to be applied
+pub record ApplyUntouched (rows : List ℕ) (r : ℕ) (rows′ : List ℕ) : Type 0 where
+  pub number : r ≡ 26
+  pub left : rows′ ≡ rows
+
+-- ---- the call of the same name, with what it leaves as numbers
+
+module _ (c : Catalogue) (lent : IndexLent) where
+  -- an audit opened
+  pub record OpensIn (s : Settings) (k : Counters) (r : ℕ) (k′ : Counters) (ns′ : List ℕ) : Type 0 where
+    pub number : r ≡ openingRefusal auditSeed auditOffset c lent s k
+    pub state : ns′ ≡ stateNumbers (openingHeld auditSeed auditOffset c lent s k .state)
+    pub counters : k′ ≡ openingHeld auditSeed auditOffset c lent s k .counters
+
+  -- a fragment audited; a refusal stands in both rows
+  pub record AuditsIn (h : Held) (f : Fragment) (answer entries : List ℕ) (r : ℕ) (k′ : Counters) (ns′ answer′ entries′ : List ℕ) : Type 0 where
+    pub number : r ≡ fragmentRefusal auditSeed auditOffset c lent h f (entryCount entries)
+    pub state : ns′ ≡ stateNumbers (fragmentHeld auditSeed auditOffset c lent h f (entryCount entries) .state)
+    pub counters : k′ ≡ fragmentHeld auditSeed auditOffset c lent h f (entryCount entries) .counters
+    pub told : answer′ ≡ placed 0 (outcomeRows 2 (fragmentAnswer auditSeed auditOffset c lent h f (entryCount entries))) answer
+    pub left : entries′ ≡ fragmentEntries auditSeed auditOffset c lent h f entries
+
+  -- many fragments audited
+  pub record AuditsListIn (h : Held) (l : FragmentLists) (rows entries : List ℕ) (r : ℕ) (k′ : Counters) (ns′ rows′ entries′ : List ℕ) : Type 0 where
+    pub number : r ≡ listRefusal auditSeed auditOffset c lent h l rows
+    pub state : ns′ ≡ stateNumbers (listHeld auditSeed auditOffset c lent h l rows entries .state)
+    pub counters : k′ ≡ listHeld auditSeed auditOffset c lent h l rows entries .counters
+    pub told : rows′ ≡ listRows auditSeed auditOffset c lent h l rows entries
+    pub left : entries′ ≡ listEntries auditSeed auditOffset c lent h l rows entries
+
+  -- an audit finished
+  pub record FinishesIn (h : Held) (answer : List ℕ) (r : ℕ) (answer′ : List ℕ) : Type 0 where
+    pub number : r ≡ finishRefusal auditSeed auditOffset c lent h
+    pub told : answer′ ≡ placed 0 (finishNumbers (finishAnswer auditSeed auditOffset c lent h)) answer
+
+-- a sheet applied
+pub record AppliesIn (audited c : Catalogue) (s : Sheet) (k : Counters) (rows : List ℕ) (r : ℕ) (rows′ : List ℕ) : Type 0 where
+  pub number : r ≡ applyRefusal audited c s k rows
+  pub left : rows′ ≡ applied audited c s k rows
+
+-- ---- the calls on numbers: the call on what they stand for, or 26
 
 module _ (c : Catalogue) (lent : IndexLent) (k : Counters) where
-  pub record OpensNumbers (mode remap floor limit : ℕ) (ns : List ℕ) (r : ℕ) (k′ : Counters) (ns′ : List ℕ) : Type 0 where
-    pub number : r ≡ (unless (openRight mode remap ns) 26 orElse openingRefusal auditSeed auditOffset c lent (codedSettings mode remap floor limit) k)
-    pub state : ns′ ≡ cond (openRight mode remap ns) (stateNumbers (openingHeld auditSeed auditOffset c lent (codedSettings mode remap floor limit) k .state)) ns
-    pub counters : k′ ≡ cond (openRight mode remap ns) (openingHeld auditSeed auditOffset c lent (codedSettings mode remap floor limit) k .counters) k
+  -- an audit opened, with the settings of these numbers
+  unfoldable pub OpensNumbers : ℕ → ℕ → ℕ → ℕ → List ℕ → ℕ → Counters → List ℕ → Type 0
+  OpensNumbers mode remap floor limit ns r k′ ns′ =
+      IfRight (openRight mode remap ns) (OpensIn c lent (codedSettings mode remap floor limit) k r k′ ns′) (OpenUntouched k ns r k′ ns′)
 
-  -- a refusal stands in both rows
-  pub record AuditsNumbers (f : CodedFragment) (ns answer entries : List ℕ) (r : ℕ) (k′ : Counters) (ns′ answer′ entries′ : List ℕ) : Type 0 where
-    pub number : r ≡ (unless (fragmentRight f ns answer) 26 orElse fragmentRefusal auditSeed auditOffset c lent (heldIn ns k) (fragmentIn f) (entryCount entries))
-    pub state : ns′ ≡ cond (fragmentRight f ns answer) (stateNumbers (fragmentHeld auditSeed auditOffset c lent (heldIn ns k) (fragmentIn f) (entryCount entries) .state)) ns
-    pub counters : k′ ≡ cond (fragmentRight f ns answer) (fragmentHeld auditSeed auditOffset c lent (heldIn ns k) (fragmentIn f) (entryCount entries) .counters) k
-    pub told : answer′ ≡ cond (fragmentRight f ns answer) (placed 0 (outcomeRows 2 (fragmentAnswer auditSeed auditOffset c lent (heldIn ns k) (fragmentIn f) (entryCount entries))) answer) answer
-    pub left : entries′ ≡ cond (fragmentRight f ns answer) (fragmentEntries auditSeed auditOffset c lent (heldIn ns k) (fragmentIn f) entries) entries
+  -- a fragment audited, on the state of these numbers
+  unfoldable pub AuditsNumbers : CodedFragment → List ℕ → List ℕ → List ℕ → ℕ → Counters → List ℕ → List ℕ → List ℕ → Type 0
+  AuditsNumbers f ns answer entries r k′ ns′ answer′ entries′ =
+      IfRight (fragmentRight f ns answer) (AuditsIn c lent (heldIn ns k) (fragmentIn f) answer entries r k′ ns′ answer′ entries′)
+      (AuditUntouched k ns answer entries r k′ ns′ answer′ entries′)
 
-  pub record AuditsListNumbers (l : FragmentLists) (ns rows entries : List ℕ) (r : ℕ) (k′ : Counters) (ns′ rows′ entries′ : List ℕ) : Type 0 where
-    pub number : r ≡ (unless (isState ns) 26 orElse listRefusal auditSeed auditOffset c lent (heldIn ns k) l rows)
-    pub state : ns′ ≡ cond (isState ns) (stateNumbers (listHeld auditSeed auditOffset c lent (heldIn ns k) l rows entries .state)) ns
-    pub counters : k′ ≡ cond (isState ns) (listHeld auditSeed auditOffset c lent (heldIn ns k) l rows entries .counters) k
-    pub told : rows′ ≡ cond (isState ns) (listRows auditSeed auditOffset c lent (heldIn ns k) l rows entries) rows
-    pub left : entries′ ≡ cond (isState ns) (listEntries auditSeed auditOffset c lent (heldIn ns k) l rows entries) entries
+  -- many fragments audited, on the state of these numbers
+  unfoldable pub AuditsListNumbers : FragmentLists → List ℕ → List ℕ → List ℕ → ℕ → Counters → List ℕ → List ℕ → List ℕ → Type 0
+  AuditsListNumbers l ns rows entries r k′ ns′ rows′ entries′ =
+      IfRight (isState ns) (AuditsListIn c lent (heldIn ns k) l rows entries r k′ ns′ rows′ entries′) (AuditUntouched k ns rows entries r k′ ns′ rows′ entries′)
 
-  pub record FinishesNumbers (ns answer : List ℕ) (r : ℕ) (answer′ : List ℕ) : Type 0 where
-    pub number : r ≡ (unless (finishRight ns answer) 26 orElse finishRefusal auditSeed auditOffset c lent (heldIn ns k))
-    pub told : answer′ ≡ cond (finishRight ns answer) (placed 0 (finishNumbers (finishAnswer auditSeed auditOffset c lent (heldIn ns k))) answer) answer
+  -- an audit finished, on the state of these numbers
+  unfoldable pub FinishesNumbers : List ℕ → List ℕ → ℕ → List ℕ → Type 0
+  FinishesNumbers ns answer r answer′ = IfRight (finishRight ns answer) (FinishesIn c lent (heldIn ns k) answer r answer′) (FinishUntouched answer r answer′)
 
--- the sheet as `finish` wrote it
-pub record AppliesNumbers (audited c : Catalogue) (k : Counters) (ns rows : List ℕ) (r : ℕ) (rows′ : List ℕ) : Type 0 where
-  pub number : r ≡ (unless (isSheet ns) 26 orElse applyRefusal audited c (sheetIn ns) k rows)
-  pub left : rows′ ≡ cond (isSheet ns) (applied audited c (sheetIn ns) k rows) rows
+-- a sheet applied, that of these numbers, as `finish` wrote it
+unfoldable pub AppliesNumbers : Catalogue → Catalogue → Counters → List ℕ → List ℕ → ℕ → List ℕ → Type 0
+AppliesNumbers audited c k ns rows r rows′ = IfRight (isSheet ns) (AppliesIn audited c (sheetIn ns) k rows r rows′) (ApplyUntouched rows r rows′)

@@ -20,17 +20,20 @@ use Rattle.numbered_calls.specs.Calls.{heldIn, AuditsListNumbers}
 
 module _ (c : Catalogue) (lent : IndexLent) (k : Counters) (l : FragmentLists) (ns rows entries : List ℕ) where
   pub no-state : isState ns ≡ false → AuditsListNumbers c lent k l ns rows entries 26 k ns rows entries
-  no-state t = record { number = rw t; state = rw t; counters = rw t; told = rw t; left = rw t }
+  unfolding AuditsListNumbers
+  no-state t = rw t (record { number = refl; state = refl; counters = refl; told = refl; left = refl })
 
   pub list-told : isState ns ≡ true → (s : AuditState) → s ≡ stateIn ns → (a : FragmentsAudit) (k′ : Counters) (rows′ entries′ : List ℕ)
       → AuditsList auditSeed auditOffset c lent (record { state = s; counters = k }) l a k′ rows entries rows′ entries′
       → (ns′ : List ℕ) → ns′ ≡ stateNumbers (a .state) → (r : ℕ) → r ≡ numberOf (callOutcome (a .answer)) → AuditsListNumbers c lent k l ns rows entries r k′ ns′ rows′ entries′
+  unfolding AuditsListNumbers
   list-told t s e a k′ rows′ entries′ g ns′ w r n =
       let b : AuditsList auditSeed auditOffset c lent (heldIn ns k) l a k′ rows entries rows′ entries′ = rw e at g in
-      record {
-        number = rw t (n ∙ ap numberOf (b .answer) ∙ number-is _ tt);
-        state = rw t (w ∙ ap (λ (h : Held). stateNumbers (h .state)) (b .held));
-        counters = rw t (ap (λ (h : Held). h .counters) (b .held));
-        told = rw t (b .told);
-        left = rw t (b .left);
-      }
+      rw t
+      (record {
+        number = n ∙ ap numberOf (b .answer) ∙ number-is _ tt;
+        state = w ∙ ap (λ (h : Held). stateNumbers (h .state)) (b .held);
+        counters = ap (λ (h : Held). h .counters) (b .held);
+        told = b .told;
+        left = b .left;
+      })

@@ -18,6 +18,11 @@ abbrev pub ifPassed : {A : Type 0} → ℕ → A → A → A
 ifPassed zero follows stands = follows
 ifPassed (suc n) follows stands = stands
 
+-- by a test of what is lent: the promise of the call, or that of one that leaves everything as it was
+abbrev pub IfRight : Bool → Type 0 → Type 0 → Type 0
+IfRight true call untouched = call
+IfRight false call untouched = untouched
+
 -- a call is refused by a number, or accepted with an answer
 pub data Outcome (A : Type 0) : Type 0 where
   refused : ℕ → Outcome A
