@@ -29,7 +29,7 @@ done
 
 mkdir -p "$here/target"
 echo "oracle: proving and building the libraries"
-for library in exports audit_exports; do
+for library in jekaumeo jekaumeo_audit; do
     rt staticlib "$library" >"$here/target/$library.log" 2>&1 || {
         tail -n 20 "$here/target/$library.log" | cut -c 1-400 >&2
         missing "$library is not built; see oracle/target/$library.log"

@@ -1,14 +1,14 @@
 // An audit finished.
 ghost use mathlib.Core.Bool.{true};
 ghost use Rattle.catalogue.specs.Catalogue.{lentCatalogue};
-ghost use Rattle.audit_rules.specs.Settings.{auditSeed, auditOffset};
-ghost use Rattle.audit_rules.specs.Opening.{none};
-ghost use Rattle.audit_rules.specs.Calls.{lentHeld, lentIndex, Finishes};
-use audit_rules::calls::Finish;
-use audit_rules::settings::AUDIT_OFFSET;
-use audit_rules::settings::AUDIT_SEED;
-use audit_rules::settings::AuditState;
-use finishing::finish_audit;
+ghost use Rattle.audit_model.specs.Settings.{auditSeed, auditOffset};
+ghost use Rattle.audit_model.specs.Opening.{none};
+ghost use Rattle.audit_model.specs.Calls.{lentHeld, lentIndex, Finishes};
+use audit_finish::finish_audit;
+use audit_model::calls::Finish;
+use audit_model::settings::AUDIT_OFFSET;
+use audit_model::settings::AUDIT_SEED;
+use audit_model::settings::AuditState;
 
 // Finishes an audit by the index: refused, or its sheet. State and counters stay.
 pub fn finish(

@@ -2,16 +2,16 @@
 ghost use mathlib.Core.Bool.{true};
 ghost use Rattle.promises.specs.Slice.{old, new};
 ghost use Rattle.catalogue.specs.Catalogue.{lentCatalogue};
-ghost use Rattle.ledger.specs.Booking.{leftCounters};
-ghost use Rattle.audit_rules.specs.Settings.{auditSeed, auditOffset};
-ghost use Rattle.audit_rules.specs.Opening.{none};
-ghost use Rattle.audit_rules.specs.Calls.{lentHeld, lentIndex, lentMate, fragmentOf, Audits};
-use audit_rules::calls::FragmentAudit;
-use audit_rules::settings::AUDIT_OFFSET;
-use audit_rules::settings::AUDIT_SEED;
-use audit_rules::settings::AuditState;
-use audit_rules::settings::MateRole;
-use fragments::audit_fragment;
+ghost use Rattle.audit_ledger.specs.Booking.{leftCounters};
+ghost use Rattle.audit_model.specs.Settings.{auditSeed, auditOffset};
+ghost use Rattle.audit_model.specs.Opening.{none};
+ghost use Rattle.audit_model.specs.Calls.{lentHeld, lentIndex, lentMate, fragmentOf, Audits};
+use audit_fragment::audit_fragment;
+use audit_model::calls::FragmentAudit;
+use audit_model::settings::AUDIT_OFFSET;
+use audit_model::settings::AUDIT_SEED;
+use audit_model::settings::AuditState;
+use audit_model::settings::MateRole;
 
 // Audits a fragment by the index: refused, or its rows, with its groups in the entries and its reads booked.
 pub fn fragment(

@@ -1,15 +1,15 @@
 // An audit opened.
 ghost use mathlib.Core.Bool.{true};
 ghost use Rattle.catalogue.specs.Catalogue.{lentCatalogue};
-ghost use Rattle.ledger.specs.Booking.{lentCounters, leftCounters};
-ghost use Rattle.audit_rules.specs.Settings.{auditSeed, auditOffset};
-ghost use Rattle.audit_rules.specs.Opening.{none};
-ghost use Rattle.audit_rules.specs.Calls.{lentIndex, Opens};
-use audit_rules::calls::Opening;
-use audit_rules::settings::AUDIT_OFFSET;
-use audit_rules::settings::AUDIT_SEED;
-use audit_rules::settings::Settings;
-use fresh::open_audit;
+ghost use Rattle.audit_ledger.specs.Booking.{lentCounters, leftCounters};
+ghost use Rattle.audit_model.specs.Settings.{auditSeed, auditOffset};
+ghost use Rattle.audit_model.specs.Opening.{none};
+ghost use Rattle.audit_model.specs.Calls.{lentIndex, Opens};
+use audit_model::calls::Opening;
+use audit_model::settings::AUDIT_OFFSET;
+use audit_model::settings::AUDIT_SEED;
+use audit_model::settings::Settings;
+use audit_open::open_audit;
 
 // Opens an audit by the index: refused, or a fresh state with every counter at zero.
 pub fn open(

@@ -2,8 +2,8 @@
 -- Assumes nothing.
 use mathlib.Core.Path.{_≡_, refl}
 use Prim.Native.Nat.{ℕ, zero, suc}
-use Rattle.audit_rules.specs.declared.settings.AuditInputMode.the-variants as modes
-use Rattle.audit_rules.specs.declared.settings.MateRole.the-variants as roles
+use Rattle.audit_model.specs.declared.settings.AuditInputMode.the-variants as modes
+use Rattle.audit_model.specs.declared.settings.MateRole.the-variants as roles
 use Rattle.audit_codes.specs.Codes.{modeOf, roleOf}
 
 pub paired : (n : ℕ) → (n ≡ 0 → ⊥) → modes.PairedEnd ≡ modeOf n

@@ -2,10 +2,10 @@
 use mathlib.Core.Bool.{Bool}
 use Prim.Native.Nat.{ℕ, zero, suc}
 use lib.Dec.{eqb, leb}
-use Rattle.audit_rules.specs.declared.settings.AuditInputMode.{AuditInputMode}
-use Rattle.audit_rules.specs.declared.settings.AuditInputMode.the-variants as modes
-use Rattle.audit_rules.specs.declared.settings.MateRole.{MateRole}
-use Rattle.audit_rules.specs.declared.settings.MateRole.the-variants as roles
+use Rattle.audit_model.specs.declared.settings.AuditInputMode.{AuditInputMode}
+use Rattle.audit_model.specs.declared.settings.AuditInputMode.the-variants as modes
+use Rattle.audit_model.specs.declared.settings.MateRole.{MateRole}
+use Rattle.audit_model.specs.declared.settings.MateRole.the-variants as roles
 
 -- 0 single reads, 1 pairs
 abbrev pub modeOf : ℕ → AuditInputMode

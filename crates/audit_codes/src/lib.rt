@@ -1,8 +1,8 @@
 // Modes and roles by their numbers.
 ghost use mathlib.Core.Path.{_≡_};
 ghost use Rattle.audit_codes.specs.Codes.{modeOf, roleOf};
-use audit_rules::settings::AuditInputMode;
-use audit_rules::settings::MateRole;
+use audit_model::settings::AuditInputMode;
+use audit_model::settings::MateRole;
 
 pub fn mode_of(number: u8) -> AuditInputMode
     ensures { λ r. ⌜ r ≡ modeOf number ⌝ }

@@ -19,13 +19,13 @@ use Rattle.lists.proofs.Member.{∈-map, map-∈}
 use Rattle.lists.proofs.Filter.{∈-filter, filter-∈}
 use Rattle.lists.proofs.Order.{order-by, ascending-filter, ascending-map, ascending-unique, apart-filter}
 use Rattle.lists.proofs.Sort.{sort-ascending, ∈-sort, sort-∈}
-use Rattle.names.specs.Name.{nameBefore, distinctNames, placeBefore}
+use Rattle.identifiers.specs.Name.{nameBefore, distinctNames, placeBefore}
 use Rattle.lists.specs.Numbers.{numbers}
 use Rattle.catalogue.specs.Catalogue.{Catalogue, Target, targetsFrom, targets, names, sequences, isMapped, byName, inBounds, mapped}
 use Rattle.catalogue.specs.Ranking.{linearAt, linearPlaces}
 use Rattle.lists.proofs.Cut.{length-cut}
 use Rattle.catalogue.proofs.Checks.{bounded}
-use Rattle.names.proofs.NameLaws.{name-order, name-total, place-order, two-same}
+use Rattle.identifiers.proofs.NameLaws.{name-order, name-total, place-order, two-same}
 use Rattle.lists.proofs.Numbers.{numbers-∈, ∈-numbers}
 
 -- ---- targets by place

@@ -16,7 +16,7 @@ use Rattle.lists.proofs.Every.{∈-every}
 use Rattle.lists.proofs.Sort.{sort-∈}
 use Rattle.promises.specs.Refusal.{unless, _orElse_, refused, accepted, outcome}
 use Rattle.promises.proofs.Refusing.{none-first, none-second, passed, outcome-accepted}
-use Rattle.names.specs.Name.{distinctNames, placeBefore}
+use Rattle.identifiers.specs.Name.{distinctNames, placeBefore}
 use Rattle.lists.specs.Numbers.{numbers}
 use Rattle.catalogue.specs.Catalogue.{Catalogue, Valid, names, sequences, inBounds, properSequence, catalogueRefusal, mapped}
 use Rattle.catalogue.specs.Ranking.{rankingOutcome, Kept, linearPlaces, NamesRanked, RankedAs}

@@ -12,7 +12,7 @@ use Rattle.lists.specs.Cut.{cut, endsWithin}
 use Rattle.promises.specs.Slice.{Slice, old}
 use Rattle.bases.specs.Read.{capitals}
 use Rattle.promises.specs.Refusal.{unless, _orElse_}
-use Rattle.names.specs.Name.{nameBefore, distinctNames}
+use Rattle.identifiers.specs.Name.{nameBefore, distinctNames}
 
 -- a catalogue as it is lent: identifier bytes with ends, base bytes with ends, a topology mark for each target
 pub record Catalogue : Type 0 where

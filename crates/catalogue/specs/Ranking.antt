@@ -8,9 +8,9 @@ use lib.Dec.{eqb}
 use Rattle.lists.specs.Filter.{filter}
 use Rattle.lists.specs.Sort.{sort}
 use Rattle.promises.specs.Refusal.{unless, Outcome, refused, accepted, outcome}
-use Rattle.names.specs.Name.{distinctNames, placeBefore}
+use Rattle.identifiers.specs.Name.{distinctNames, placeBefore}
 use Rattle.lists.specs.Numbers.{numbers}
-use Rattle.name_order.specs.Ordered.{NamesLent}
+use Rattle.identifier_sort.specs.Ordered.{NamesLent}
 use Rattle.catalogue.specs.Catalogue.{Catalogue, catalogueRefusal, mapped, suppliedPlaces}
 use Rattle.catalogue.specs.declared.ranks.Ranking.{Ranking}
 use Rattle.catalogue.specs.declared.ranks.Ranking.the-variants.{Refused, Ranked}

@@ -5,7 +5,7 @@ ghost use Rattle.lists.specs.Filter.{every};
 ghost use Rattle.lists.specs.Cut.{endsWithin};
 ghost use Rattle.promises.specs.Slice.{old};
 ghost use Rattle.bases.specs.Base.{isCapital};
-ghost use Rattle.names.specs.Lent.{lentCut, EndsRight};
+ghost use Rattle.identifiers.specs.Lent.{lentCut, EndsRight};
 ghost use Rattle.catalogue.specs.Catalogue.{lentCatalogue, lengthsWithin, marksRight, inBounds, properSequence};
 
 const MAX_TARGETS: usize = 4096;

@@ -7,11 +7,11 @@ ghost use lib.Dec.{ltb};
 ghost use Rattle.lists.specs.Filter.{every};
 ghost use Rattle.promises.specs.Slice.{old, new};
 ghost use Rattle.catalogue.specs.Catalogue.{lentCatalogue, maxTargets};
-ghost use Rattle.names.specs.Lent.{lentCut};
+ghost use Rattle.identifiers.specs.Lent.{lentCut};
 ghost use Rattle.catalogue.specs.Ranking.{PlaceKept, Kept, MarkedNames, NamesRanked, RankedAs};
 use crate::bounds::all_proper;
 use crate::bounds::in_bounds;
-use name_order::order_names;
+use identifier_sort::order_names;
 
 // A refusal, 2 to 4 for a catalogue and 1 for a seed length, or the number of mapped targets.
 pub enum Ranking {

@@ -19,19 +19,19 @@ use Rattle.bases.specs.Read.{reverseComplement}
 use Rattle.bases.proofs.Bytes.{complement-twice}
 use Rattle.bases.proofs.Turning.{length-reverse-complement}
 use Rattle.catalogue.specs.Catalogue.{Catalogue, Valid, suppliedPlaces}
-use Rattle.seeds.specs.Seeds.{placed}
-use Rattle.index.specs.Index.{mappedSequences, planRefusal, indexRefusal}
-use Rattle.planning.proofs.Planning.{plan-right}
-use Rattle.places.specs.Place.{Place, groups}
-use Rattle.places.proofs.Swapping.{groups-turned}
-use Rattle.candidates.proofs.Candidates.{comparable-fewer}
-use Rattle.scan.specs.Entries.{entriesOf, entryCount, cleared}
-use Rattle.scan.proofs.Going.{length-entries}
-use Rattle.index_search.specs.Work.{work, scanWork, Way, byIndex, plain, workBy}
-use Rattle.answers.specs.Answer.{Row, answerOf, listed, mappedRow, roomRefusal, mappedState}
-use Rattle.search.specs.Answered.{SearchAnswered}
-use Rattle.index_search.specs.declared.work.MappingWork.{MappingWork}
-use Rattle.answers.specs.declared.answer.MapAnswer.{MapAnswer}
+use Rattle.index_seeds.specs.Seeds.{placed}
+use Rattle.index_model.specs.Index.{mappedSequences, planRefusal, indexRefusal}
+use Rattle.index_plan.proofs.Planning.{plan-right}
+use Rattle.map_places.specs.Place.{Place, groups}
+use Rattle.map_places.proofs.Swapping.{groups-turned}
+use Rattle.map_candidates.proofs.Candidates.{comparable-fewer}
+use Rattle.map_every_start.specs.Entries.{entriesOf, entryCount, cleared}
+use Rattle.map_every_start.proofs.Going.{length-entries}
+use Rattle.map_by_index.specs.Work.{work, scanWork, Way, byIndex, plain, workBy}
+use Rattle.map_answers.specs.Answer.{Row, answerOf, listed, mappedRow, roomRefusal, mappedState}
+use Rattle.map_search.specs.Answered.{SearchAnswered}
+use Rattle.map_by_index.specs.declared.work.MappingWork.{MappingWork}
+use Rattle.map_answers.specs.declared.answer.MapAnswer.{MapAnswer}
 use Rattle.indexed_mapper.specs.Map.{readRefusal, rankedRefusal, mapRefusal, MapsTo}
 use Rattle.indexed_mapper.specs.Match.{Unlisted, Listed, Lists}
 use Rattle.indexed_mapper.specs.Laws.{SearchesAgree, turnedGroups, TurnedAnswer}

@@ -16,25 +16,25 @@ use Rattle.bases.specs.Base.{A, C, G, T, isCapital}
 use Rattle.bases.proofs.Bytes.{letter-capital}
 use Rattle.promises.specs.Refusal.{unless, _orElse_}
 use Rattle.promises.proofs.Refusing.{first-stands}
-use Rattle.names.specs.Name.{distinctNames}
+use Rattle.identifiers.specs.Name.{distinctNames}
 use Rattle.catalogue.specs.Catalogue.{Catalogue, names, sequences, inBounds, properSequence, catalogueRefusal, suppliedPlaces}
 use Rattle.catalogue.specs.declared.ranks.Ranking.{Ranking}
 use Rattle.catalogue.specs.declared.ranks.Ranking.the-variants.{Refused, Ranked}
-use Rattle.seeds.specs.Seeds.{keysOf, ranksOf, positionsOf}
-use Rattle.seeds.specs.Key.{SeedLength}
-use Rattle.index.specs.Index.{indexOf, mappedSequences, rankedSequences, seedRight, planRefusal, indexRefusal, columnsOf, Lent, Indexed}
-use Rattle.planning.specs.Answers.{PlanRanked}
-use Rattle.planning.proofs.Planning.{no-refusal, ranked-mapped, number, not-zero, test-refused}
+use Rattle.index_seeds.specs.Seeds.{keysOf, ranksOf, positionsOf}
+use Rattle.index_seeds.specs.Key.{SeedLength}
+use Rattle.index_model.specs.Index.{indexOf, mappedSequences, rankedSequences, seedRight, planRefusal, indexRefusal, columnsOf, Lent, Indexed}
+use Rattle.index_plan.specs.Answers.{PlanRanked}
+use Rattle.index_plan.proofs.Planning.{no-refusal, ranked-mapped, number, not-zero, test-refused}
 use Rattle.bases.specs.Read.{folded}
-use Rattle.places.specs.Place.{maxRead, groups}
-use Rattle.scan.specs.Entries.{entryCount}
-use Rattle.answers.specs.Bounds.{lengthRight, limitRight}
-use Rattle.index_search.specs.Work.{byIndex}
-use Rattle.answers.specs.Answer.{roomRefusal}
-use Rattle.search.specs.Answered.{SearchAnswered}
-use Rattle.index_search.specs.Steps.{IndexSearchable, Mappable}
-use Rattle.answers.specs.declared.answer.MapAnswer.{MapAnswer}
-use Rattle.answers.specs.declared.answer.MapAnswer.the-variants as answers
+use Rattle.map_places.specs.Place.{maxRead, groups}
+use Rattle.map_every_start.specs.Entries.{entryCount}
+use Rattle.map_answers.specs.Bounds.{lengthRight, limitRight}
+use Rattle.map_by_index.specs.Work.{byIndex}
+use Rattle.map_answers.specs.Answer.{roomRefusal}
+use Rattle.map_search.specs.Answered.{SearchAnswered}
+use Rattle.map_by_index.specs.Steps.{IndexSearchable, Mappable}
+use Rattle.map_answers.specs.declared.answer.MapAnswer.{MapAnswer}
+use Rattle.map_answers.specs.declared.answer.MapAnswer.the-variants as answers
 use Rattle.indexed_mapper.specs.Map.{readRefusal, rankedRefusal, mapRefusal, RankedAnswered, ReadMapped, IndexMapped, MapsTo}
 
 -- ---- refusals of a read and a limit

@@ -17,14 +17,14 @@ use Rattle.lists.proofs.Member.{getD-∈, ∈-getD, ∈-map, map-∈}
 use Rattle.lists.proofs.Order.{ascending-map, later-differs}
 use Rattle.lists.proofs.Places.{getD-map}
 use Rattle.lists.proofs.Same.{same-true, true-same}
-use Rattle.names.specs.Name.{nameBefore, placeBefore}
-use Rattle.names.proofs.NameLaws.{place-order}
+use Rattle.identifiers.specs.Name.{nameBefore, placeBefore}
+use Rattle.identifiers.proofs.NameLaws.{place-order}
 use Rattle.catalogue.specs.Catalogue.{Catalogue, Target, Valid, names, byName, mapped, suppliedPlaces}
 use Rattle.catalogue.proofs.Mapped.{mapped-∈, ∈-mapped, mapped-ascending, named-by-place}
-use Rattle.index.specs.Index.{mappedSequences}
-use Rattle.places.specs.Place.{Place, place, before, Fits, matches, groups}
-use Rattle.places.proofs.Placing.{groups-∈, ∈-groups, groups-ascending}
-use Rattle.scan.specs.Entries.{entryOf, entriesOf}
+use Rattle.index_model.specs.Index.{mappedSequences}
+use Rattle.map_places.specs.Place.{Place, place, before, Fits, matches, groups}
+use Rattle.map_places.proofs.Placing.{groups-∈, ∈-groups, groups-ascending}
+use Rattle.map_every_start.specs.Entries.{entryOf, entriesOf}
 use Rattle.indexed_mapper.specs.Match.{Match, placeIn, rankOf, byRank, matchEntries}
 
 -- in a list that ascends each number stands at one place

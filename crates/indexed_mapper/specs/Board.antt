@@ -8,13 +8,13 @@ use Rattle.bases.specs.Eligibility.{Verdict, ineligible, eligibility}
 use Rattle.bases.specs.Eligibility as judged
 use Rattle.promises.specs.Refusal.{accepted}
 use Rattle.catalogue.specs.Catalogue.{Catalogue}
-use Rattle.columns.specs.Posting.{Posting, posting}
-use Rattle.seeds.specs.Seeds.{keysOf, ranksOf, positionsOf}
-use Rattle.index.specs.Index.{index, mappedSequences}
-use Rattle.places.specs.Place.{Place, place, groups}
-use Rattle.index_search.specs.Work.{workOf}
-use Rattle.answers.specs.Answer.{Row, row, listed}
-use Rattle.index_search.specs.declared.work.MappingWork.{MappingWork}
+use Rattle.index_columns.specs.Posting.{Posting, posting}
+use Rattle.index_seeds.specs.Seeds.{keysOf, ranksOf, positionsOf}
+use Rattle.index_model.specs.Index.{index, mappedSequences}
+use Rattle.map_places.specs.Place.{Place, place, groups}
+use Rattle.map_by_index.specs.Work.{workOf}
+use Rattle.map_answers.specs.Answer.{Row, row, listed}
+use Rattle.map_by_index.specs.declared.work.MappingWork.{MappingWork}
 use Rattle.indexed_mapper.specs.Map.{mapAnswer}
 
 pub data Example : Type 0 where

@@ -4,9 +4,9 @@ use mathlib.Core.List.{List, map}
 use Prim.Native.Nat.{ℕ, _*_, _≤_}
 use lib.ListN.{take}
 use Rattle.lists.specs.Sort.{sort}
-use Rattle.places.specs.Place.{Place, before, swapped}
-use Rattle.scan.specs.Entries.{entriesOf}
-use Rattle.answers.specs.Answer.{Row, listed}
+use Rattle.map_places.specs.Place.{Place, before, swapped}
+use Rattle.map_every_start.specs.Entries.{entriesOf}
+use Rattle.map_answers.specs.Answer.{Row, listed}
 
 -- what the search by index answers and leaves in its entries, and the same of the search at every start: the same state,
 -- number of groups and listed groups, and no more comparisons

@@ -5,13 +5,13 @@ use Prim.Native.Nat.{ℕ}
 use lib.ListN.{length}
 use Rattle.promises.specs.Refusal.{unless, _orElse_, Outcome}
 use Rattle.catalogue.specs.Catalogue.{Catalogue, properSequence, suppliedPlaces}
-use Rattle.index.specs.Index.{mappedSequences, indexOf, columnsOf, indexRefusal}
-use Rattle.places.specs.Place.{groups}
-use Rattle.scan.specs.Entries.{entryCount}
-use Rattle.answers.specs.Bounds.{lengthRight, limitRight}
-use Rattle.index_search.specs.Work.{work}
-use Rattle.answers.specs.Answer.{Row, roomRefusal, readAnswer, readEntries, Leaves, Answered}
-use Rattle.answers.specs.declared.answer.MapAnswer.{MapAnswer}
+use Rattle.index_model.specs.Index.{mappedSequences, indexOf, columnsOf, indexRefusal}
+use Rattle.map_places.specs.Place.{groups}
+use Rattle.map_every_start.specs.Entries.{entryCount}
+use Rattle.map_answers.specs.Bounds.{lengthRight, limitRight}
+use Rattle.map_by_index.specs.Work.{work}
+use Rattle.map_answers.specs.Answer.{Row, roomRefusal, readAnswer, readEntries, Leaves, Answered}
+use Rattle.map_answers.specs.declared.answer.MapAnswer.{MapAnswer}
 
 -- ---- refusals
 

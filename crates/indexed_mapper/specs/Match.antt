@@ -11,10 +11,10 @@ use Rattle.lists.specs.Order.{Ascending}
 use Rattle.lists.specs.Triple.{Triple, lexicographic}
 use Rattle.bases.specs.Read.{folded, oriented}
 use Rattle.catalogue.specs.Catalogue.{Catalogue, Target, targets, isMapped, suppliedPlaces}
-use Rattle.seeds.specs.Window.{windowOf, FitsIn}
-use Rattle.seeds.specs.Seeds.{placed}
-use Rattle.scan.specs.Entries.{entryOf, cleared}
-use Rattle.answers.specs.Answer.{Row, stateOf}
+use Rattle.index_seeds.specs.Window.{windowOf, FitsIn}
+use Rattle.index_seeds.specs.Seeds.{placed}
+use Rattle.map_every_start.specs.Entries.{entryOf, cleared}
+use Rattle.map_answers.specs.Answer.{Row, stateOf}
 
 -- the read matches at a start and on a strand of the linear target supplied at a place: it ends within the target, and the
 -- target's bases from the start on are the read's, in upper case and as it lies on the strand

@@ -2,19 +2,19 @@
 ghost use mathlib.Core.Path.{_≡_};
 ghost use Rattle.promises.specs.Slice.{old, new};
 ghost use Rattle.catalogue.specs.Catalogue.{lentCatalogue};
-ghost use Rattle.seeds.specs.Key.{SeedLength};
-ghost use Rattle.index.specs.Index.{Lent, lentSequences};
-ghost use Rattle.index_search.specs.Steps.{Mappable};
+ghost use Rattle.index_seeds.specs.Key.{SeedLength};
+ghost use Rattle.index_model.specs.Index.{Lent, lentSequences};
+ghost use Rattle.map_by_index.specs.Steps.{Mappable};
 ghost use Rattle.indexed_mapper.specs.Map.{readRefusal, ReadMapped, IndexMapped, MapsTo};
-use answers::answer::MapAnswer;
-use answers::bounds::length_right;
-use answers::bounds::limit_right;
 use catalogue::bounds::proper_sequence;
 use catalogue::ranks::Ranking;
-use index::test::is_index;
-use lookup::lookup::NOWHERE;
-use planning::rank_checked;
-use search::search;
+use index_lookup::lookup::NOWHERE;
+use index_model::test::is_index;
+use index_plan::rank_checked;
+use map_answers::answer::MapAnswer;
+use map_answers::bounds::length_right;
+use map_answers::bounds::limit_right;
+use map_search::search;
 
 // Tests a read and a limit: refusals 7, 8 and 9, or 0.
 pub fn check_read(read: &[u8], limit: u64) -> u64

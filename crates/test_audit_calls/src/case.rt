@@ -3,8 +3,8 @@
 // lists, an end as a number; then commands, each its length and its bytes. Counters are zero at first, the columns hold
 // the index that `build` gives at 15, and sevens behind it.
 use crate::commands::run_command;
+use index_calls::build;
 use libc::STDIN_FILENO;
-use postings::build;
 use test_audit_io::desk::Desk;
 use test_audit_io::desk::nothing_held;
 use test_cases::reading::case_end;

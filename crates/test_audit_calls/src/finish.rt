@@ -1,9 +1,9 @@
 // Finishes an audit, by the index or plain, and writes what the call answers.
 use audit::finish::finish;
 use audit::finish::plain_finish;
-use audit_rules::calls::Finish;
-use audit_rules::settings::AuditState;
-use audit_rules::sheet::Sheet;
+use audit_model::calls::Finish;
+use audit_model::settings::AuditState;
+use audit_model::sheet::Sheet;
 use test_audit_io::answered::put_call;
 use test_audit_io::answered::put_sheet;
 

@@ -5,7 +5,7 @@ use crate::finish::run_finish;
 use crate::fragment::run_fragment;
 use crate::open::run_open;
 use crate::sheet::apply_command;
-use audit_rules::settings::AuditState;
+use audit_model::settings::AuditState;
 use test_audit_io::desk::Held;
 use test_audit_io::desk::with_sheet;
 use test_audit_io::desk::with_state;

@@ -1,9 +1,9 @@
 // Opens an audit, by the index or plain, and writes what the call answers and leaves.
 use audit::open::open;
 use audit::open::plain_open;
-use audit_rules::calls::Opening;
-use audit_rules::settings::AuditState;
-use audit_rules::settings::Settings;
+use audit_model::calls::Opening;
+use audit_model::settings::AuditState;
+use audit_model::settings::Settings;
 use test_audit_io::answered::put_call;
 use test_audit_io::answered::put_counters;
 use test_audit_io::answered::put_state;

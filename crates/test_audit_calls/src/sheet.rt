@@ -1,7 +1,8 @@
 // Applies the sheet of a finished audit by a command that is written as bytes; `commands` says how.
 ghost use Prim.Native.Nat.{_≤_};
 ghost use lib.ListN.{length};
-use audit_rules::sheet::Sheet;
+use audit_model::sheet::Sheet;
+use audit_unitigs::apply_to_unitigs;
 use test_audit_io::answered::put_call;
 use test_audit_io::numbers::share;
 use test_cases::targets::base_ends_in;
@@ -11,7 +12,6 @@ use test_cases::targets::identifiers_in;
 use test_cases::targets::lists_at;
 use test_cases::targets::marks_in;
 use test_cases::writing::put_numbers;
-use unitigs::apply_to_unitigs;
 
 fn run_apply(
     rows: &mut [u64],

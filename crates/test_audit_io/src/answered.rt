@@ -1,20 +1,20 @@
 // What the calls of an audit answer and leave, written as lines of numbers.
-use audit_rules::calls::CallAnswer;
-use audit_rules::calls::FragmentAnswer;
-use audit_rules::settings::AuditInputMode;
-use audit_rules::settings::AuditState;
-use audit_rules::settings::LastOrdinal;
-use audit_rules::settings::Settings;
-use audit_rules::sheet::Availability;
-use audit_rules::sheet::PlacementTotals;
-use audit_rules::sheet::Sheet;
-use ledger::Ledger;
+use audit_ledger::Ledger;
+use audit_model::calls::CallAnswer;
+use audit_model::calls::FragmentAnswer;
+use audit_model::settings::AuditInputMode;
+use audit_model::settings::AuditState;
+use audit_model::settings::LastOrdinal;
+use audit_model::settings::Settings;
+use audit_model::sheet::Availability;
+use audit_model::sheet::PlacementTotals;
+use audit_model::sheet::Sheet;
+use audit_unitigs::status_number;
 use test_cases::writing::put;
 use test_cases::writing::put_line;
 use test_cases::writing::put_number;
 use test_cases::writing::put_numbers;
 use test_map_calls::answered::put_mapping;
-use unitigs::status_number;
 
 fn mode_number(mode: AuditInputMode) -> u64 {
     match mode {

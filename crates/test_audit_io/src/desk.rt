@@ -1,13 +1,13 @@
 // What one command of a case leaves to the next.
-use audit_rules::settings::AuditInputMode;
-use audit_rules::settings::AuditState;
-use audit_rules::settings::LastOrdinal;
-use audit_rules::settings::Settings;
-use audit_rules::sheet::Availability;
-use audit_rules::sheet::Sheet;
-use audit_rules::sheet::Shown;
-use audit_rules::sheet::Status;
-use ledger::Ledger;
+use audit_ledger::Ledger;
+use audit_model::settings::AuditInputMode;
+use audit_model::settings::AuditState;
+use audit_model::settings::LastOrdinal;
+use audit_model::settings::Settings;
+use audit_model::sheet::Availability;
+use audit_model::sheet::Sheet;
+use audit_model::sheet::Shown;
+use audit_model::sheet::Status;
 
 // State and sheet.
 pub struct Held {

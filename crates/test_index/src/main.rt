@@ -7,12 +7,12 @@
 // one base, its name is a number, from 0 on by place, and behind the distinct ones from 0 on again.
 ghost use Prim.Native.Nat.{_≤_};
 ghost use lib.ListN.{length};
+use index_calls::Built;
+use index_calls::build;
+use index_plan::IndexPlan;
+use index_plan::plan;
 use libc::STDIN_FILENO;
 use numbered::run_numbered;
-use planning::IndexPlan;
-use planning::plan;
-use postings::Built;
-use postings::build;
 use test_cases::reading::at_most;
 use test_cases::reading::case_end;
 use test_cases::reading::number;

@@ -3,7 +3,7 @@ ghost use Prim.Native.Nat.{_≤_};
 ghost use mathlib.Core.Path.{_≡_};
 ghost use lib.ListN.{length};
 use crate::put_plan;
-use planning::plan;
+use index_plan::plan;
 use test_cases::reading::at_most;
 use test_cases::reading::number;
 use test_cases::writing::put;

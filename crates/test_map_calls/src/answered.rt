@@ -1,7 +1,7 @@
 // Answers of `map`, written.
-use answers::answer::MapAnswer;
-use answers::answer::Mapping;
-use answers::answer::state_number;
+use map_answers::answer::MapAnswer;
+use map_answers::answer::Mapping;
+use map_answers::answer::state_number;
 use test_cases::writing::put_line;
 use test_cases::writing::put_numbers;
 

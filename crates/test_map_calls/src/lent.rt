@@ -4,8 +4,8 @@ ghost use mathlib.Core.Path.{_≡_};
 ghost use lib.ListN.{length};
 use crate::answered::put_answer;
 use crate::records::map_records;
+use index_calls::build;
 use indexed_mapper::map::map;
-use postings::build;
 use test_cases::reading::at_most;
 
 // The numbers of a case that are no lengths of its lists, and whether the index is lent as records.

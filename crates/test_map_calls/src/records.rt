@@ -2,9 +2,9 @@
 // 2^64 - 1, which no posting has, so that columns of different lengths are refused as `map` refuses them.
 ghost use mathlib.Core.Path.{_≡_};
 ghost use lib.ListN.{length};
-use answers::answer::MapAnswer;
-use copying::SeedPosting;
-use record_arrays::map_array;
+use map_answers::answer::MapAnswer;
+use record_array::map_array;
+use record_copy::SeedPosting;
 use test_cases::reading::at_most;
 
 // The number of a column at a place, or one that no posting has where the column ends before it.

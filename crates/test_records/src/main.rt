@@ -2,13 +2,13 @@
 // (6,0,0) (6,0,4) (27,0,1) (27,0,5) (44,0,2) (49,0,3).
 ghost use mathlib.Core.Path.{_≡_};
 ghost use lib.ListN.{length};
-use candidates::cursor::OrientationCursor;
-use copying::SeedPosting;
-use index_search::work::MappingWork;
-use moving::Step;
-use moving::advanced;
-use postings::build;
-use record_arrays::map_array;
+use index_calls::build;
+use map_by_index::work::MappingWork;
+use map_candidates::cursor::OrientationCursor;
+use map_cursor::Step;
+use map_cursor::advanced;
+use record_array::map_array;
+use record_copy::SeedPosting;
 use test_cases::reading::at_most;
 use test_cases::writing::put;
 use test_cases::writing::put_number;

@@ -1,4 +1,4 @@
-//! The proved library. Nothing checks these declarations against its source, crates/exports/src/lib.rt.
+//! The proved library. Nothing checks these declarations against its source, crates/jekaumeo/src/lib.rt.
 
 use crate::{Catalogue, Columns};
 

@@ -1,4 +1,4 @@
-//! The audit of the proved library. Nothing checks these declarations against its source, crates/audit_exports/src/lib.rt.
+//! The audit of the proved library. Nothing checks these declarations against its source, crates/jekaumeo_audit/src/lib.rt.
 
 use crate::audits::Settings;
 use crate::lent::{LentFragment, LentFragments};

@@ -8,7 +8,7 @@ use borrow.Author.Tests.{not-true, not-false}
 use Rattle.lists.specs.Filter.{every}
 use Rattle.lists.specs.Cut.{cut}
 use Rattle.lists.proofs.Cut.{length-cut}
-use Rattle.name_order.specs.Ordered.{Ordered}
+use Rattle.identifier_sort.specs.Ordered.{Ordered}
 use Rattle.catalogue.proofs.Refusals.{names-refused, names-ranked, places-below}
 use borrow.Author.Needs.{needs}
 use Rattle.catalogue.proofs.ranks.rank_names.Statement.{statement}

@@ -1,7 +1,7 @@
 -- `indexed_mapper::map::map` meets its contract: the ranking's refusal, or the answer for the ranked sequences.
 -- Assumes nothing.
 use native.Mathlib.Omega.{arith}
-use Rattle.planning.proofs.Planning.{within-buffer, prefix-length, lent, seed-length}
+use Rattle.index_plan.proofs.Planning.{within-buffer, prefix-length, lent, seed-length}
 use Rattle.indexed_mapper.proofs.Mapping.{map-refused, map-done}
 use borrow.Author.Needs.{needs}
 use Rattle.indexed_mapper.proofs.map.map.Statement.{statement}

@@ -2,7 +2,7 @@
 -- Assumes nothing.
 use mathlib.Core.Path.{sym, _∙_}
 use borrow.Author.Tests.{not-true, not-false}
-use Rattle.index.specs.Index.{rankedSequences}
+use Rattle.index_model.specs.Index.{rankedSequences}
 use Rattle.indexed_mapper.proofs.Mapping.{mappable, index-refused, index-right}
 use borrow.Author.Needs.{needs}
 use Rattle.indexed_mapper.proofs.map.map_ranked.Statement.{statement}

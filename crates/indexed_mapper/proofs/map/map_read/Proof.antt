@@ -1,7 +1,7 @@
 -- `indexed_mapper::map::map_read` meets its contract: the refusal of the read or the limit, or the search.
 -- Assumes nothing.
 use mathlib.Core.Path.{sym, _∙_}
-use Rattle.index.specs.Index.{rankedSequences}
+use Rattle.index_model.specs.Index.{rankedSequences}
 use Rattle.indexed_mapper.proofs.Mapping.{searchable, read-refused, read-searched}
 use borrow.Author.Needs.{needs}
 use Rattle.indexed_mapper.proofs.map.map_read.Statement.{statement}

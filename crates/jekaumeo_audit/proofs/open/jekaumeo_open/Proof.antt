@@ -1,0 +1,34 @@
+-- `jekaumeo_audit::open::jekaumeo_open` meets its contract: the opening with the lent index.
+-- Assumes nothing.
+use borrow.Author.Needs.{needs}
+use Rattle.jekaumeo_audit.proofs.open.jekaumeo_open.Statement.{statement}
+use Rattle.jekaumeo_audit.proofs.open.jekaumeo_open.Tie as tie
+
+open-numbers-requires : tie.Need-open-numbers-requires
+open-numbers-requires c κs = search needs
+
+same-length : tie.Need-same-length
+same-length c = search needs
+
+same-length-2 : tie.Need-same-length-2
+same-length-2 c = search needs
+
+same-length-3 : tie.Need-same-length-3
+same-length-3 c = search needs
+
+same-length-4 : tie.Need-same-length-4
+same-length-4 c = search needs
+
+returns : tie.Need-returns
+returns c = c .before .before .before .before .before .before .before .before .open-numbers .ensures
+
+pub jekaumeo-open-spec : {M : Type 1} → statement M
+jekaumeo-open-spec =
+    tie.close
+    (tie.spec
+    open-numbers-requires
+    same-length
+    same-length-2
+    same-length-3
+    same-length-4
+    returns)
