@@ -1,5 +1,4 @@
 -- Reads posted by the targets in the entries are booked as they should be, and 17 is the test of every kept number.
--- Assumes nothing.
 use mathlib.Core.Path.{_≡_, refl, sym, ap, _∙_}
 use mathlib.Core.Bool.{cond, _||_, and-assoc}
 use mathlib.Core.List.{List, [], _∷_}
@@ -15,7 +14,7 @@ use Rattle.index_seeds.specs.Seeds.{placed}
 use Rattle.audit_ledger.specs.Booking.{cell, Booked, Books, targetsOf, singleTargets, multiTargets, ledgerWith, countersWith, bookedOne, bookedAll, countable}
 use Rattle.audit_counters.specs.Targets.{targetsIn}
 use Rattle.audit_book_read.specs.Posting.{severalRuns}
-use Rattle.audit_book_fragment.specs.Books.{Posting, postingTargets, postedOne, postedAll, booksSmall}
+use Rattle.audit_book_fragment.specs.Books.{TalliedRead, talliedTargets, postedOne, postedAll, booksSmall}
 use Rattle.audit_book_answer.proofs.Runs.{Grouped, targets-listed, targets-front, runs-distinct}
 
 -- ---- 17
@@ -29,22 +28,22 @@ books-countable books =
 -- ---- one read
 
 -- what is posted of a read is what is booked of it, where the entries hold its groups
-pub record Posts (ranked : List ℕ) (x : Posting) (b : Booked) : Type 0 where
+pub record Posts (ranked : List ℕ) (x : TalliedRead) (b : Booked) : Type 0 where
   pub role : x .tally .role ≡ b .role
   pub state : x .tally .state ≡ b .state
-  pub targets : postingTargets x ≡ targetsOf ranked (b .groups)
+  pub targets : talliedTargets x ≡ targetsOf ranked (b .groups)
   pub grouped : Grouped (targetsOf ranked (b .groups))
 
 several-multi : (ts : List ℕ) → Grouped ts → severalRuns ts ≡ multiTargets ts
 several-multi ts g = ap (λ l. cond (ltb 1 (length ts)) l []) (runs-distinct ts g)
 
-pub posted-one : (ranked : List ℕ) (x : Posting) (b : Booked) → Posts ranked x b → (books : Books) → postedOne x books ≡ bookedOne ranked b books
+pub posted-one : (ranked : List ℕ) (x : TalliedRead) (b : Booked) → Posts ranked x b → (books : Books) → postedOne x books ≡ bookedOne ranked b books
 posted-one ranked x b p books = λ i. record { ledger = ledger i; counters = counters i }
   where
     ts : List ℕ
     ts = targetsOf ranked (b .groups)
 
-    same : severalRuns (postingTargets x) ≡ multiTargets ts
+    same : severalRuns (talliedTargets x) ≡ multiTargets ts
     same = ap severalRuns (p .targets) ∙ several-multi ts (p .grouped)
 
     ledger : postedOne x books .ledger ≡ ledgerWith b ts (books .ledger)
@@ -67,13 +66,13 @@ posted-one ranked x b p books = λ i. record { ledger = ledger i; counters = cou
 -- ---- reads
 
 -- each read posted as it is booked
-abbrev pub AllPost : List ℕ → List Posting → List Booked → Type 0
+abbrev pub AllPost : List ℕ → List TalliedRead → List Booked → Type 0
 AllPost ranked [] [] = Unit {0}
 AllPost ranked [] (b ∷ bs) = ⊥
 AllPost ranked (x ∷ xs) [] = ⊥
 AllPost ranked (x ∷ xs) (b ∷ bs) = Posts ranked x b × AllPost ranked xs bs
 
-pub posted-all : (ranked : List ℕ) (xs : List Posting) (bs : List Booked) → AllPost ranked xs bs → (books : Books) → postedAll xs books ≡ bookedAll ranked bs books
+pub posted-all : (ranked : List ℕ) (xs : List TalliedRead) (bs : List Booked) → AllPost ranked xs bs → (books : Books) → postedAll xs books ≡ bookedAll ranked bs books
 posted-all ranked [] [] p books = refl
 posted-all ranked (x ∷ xs) (b ∷ bs) p books = posted-all ranked xs bs (p .1) (postedOne x books) ∙ ap (bookedAll ranked bs) (posted-one ranked x b (p .0) books)
 

@@ -5,7 +5,7 @@ ghost use Rattle.audit_ledger.specs.Booking.{countersOf, lentCounters, leftCoun
 ghost use Rattle.audit_book_fragment.specs.Books.{booksOf, countersPosted};
 ghost use Rattle.audit_model.specs.Settings.{roleNumber};
 ghost use Rattle.audit_model.specs.Calls.{heldOf, lentHeld};
-ghost use Rattle.audit_book_answer.specs.Answers.{tallyOf, answerPostings, answerBooked, AnswerPostable, AnswerPosted, CountersReady, AnswerRaisable};
+ghost use Rattle.audit_book_answer.specs.Answers.{tallyOf, answerReads, answerBooked, AnswerPostable, AnswerPosted, CountersReady, AnswerRaisable};
 use audit_book_fragment::ReadTally;
 use audit_book_fragment::post_fragment;
 use audit_book_fragment::raise_fragment;
@@ -103,7 +103,7 @@ fn raise_answer(
     width: usize,
 )
     requires { ⌜ CountersReady answer (roleNumber «first_role») (roleNumber «second_role») width (now entries) (countersOf (now placements) (now singles) (now multi)) ⌝ }
-    ensures { λ _. ⌜ leftCounters placements singles multi ≡ countersPosted (answerPostings answer (roleNumber «first_role») (roleNumber «second_role») width (old entries)) (lentCounters placements singles multi) ⌝ }
+    ensures { λ _. ⌜ leftCounters placements singles multi ≡ countersPosted (answerReads answer (roleNumber «first_role») (roleNumber «second_role») width (old entries)) (lentCounters placements singles multi) ⌝ }
 {
     match answer {
         FragmentAnswer::Refused(n) => {}
@@ -142,7 +142,7 @@ pub fn book_answer(
     width: usize,
 ) -> AuditState
     requires { ⌜ AnswerRaisable answer (roleNumber «first_role») (roleNumber «second_role») width (now entries) (heldOf state (now placements) (now singles) (now multi)) ⌝ }
-    ensures { λ r. ⌜ heldOf r (new placements) (new singles) (new multi) ≡ answerBooked ordinal (answerPostings answer (roleNumber «first_role») (roleNumber «second_role») width (old entries)) (lentHeld state placements singles multi) ⌝ }
+    ensures { λ r. ⌜ heldOf r (new placements) (new singles) (new multi) ≡ answerBooked ordinal (answerReads answer (roleNumber «first_role») (roleNumber «second_role») width (old entries)) (lentHeld state placements singles multi) ⌝ }
 {
     let settings = state.settings;
     let posted = post_answer(

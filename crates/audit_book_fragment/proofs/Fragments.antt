@@ -1,5 +1,4 @@
 -- The reads of a fragment: what they need, and what they leave.
--- Assumes nothing.
 use mathlib.Core.Path.{_≡_, sym, ap, _∙_}
 use mathlib.Core.Bool.{Bool, true, false, not}
 use mathlib.Core.List.{List}
@@ -16,15 +15,15 @@ use Rattle.audit_book_read.specs.declared.Posted.{Posted}
 use Rattle.audit_book_read.specs.Posting.{addedTo, ledgerRaised, ledgerSmall, LedgerPosted}
 use Rattle.audit_book_read.proofs.Room.{ledger-before}
 use Rattle.audit_book_fragment.specs.declared.ReadTally.{ReadTally}
-use Rattle.audit_book_fragment.specs.Books.{Posting, postings, postedAll, countersRaised, countersPosted, countersSmall, booksSmall, CountersRaisable, CountersFittable, FragmentPostable, FragmentRaisable, BooksPosted}
+use Rattle.audit_book_fragment.specs.Books.{TalliedRead, talliedReads, postedAll, countersRaised, countersPosted, countersSmall, booksSmall, CountersRaisable, CountersFittable, FragmentPostable, FragmentRaisable, BooksPosted}
 use Rattle.audit_book_fragment.proofs.Raises.{counters-before, counters-as-many}
 
 module _ (first second : ReadTally) (two : Bool) (width : ℕ) (entries : List ℕ) (k : Counters) where
   abbrev ts : List ℕ
   ts = targetsIn (first .groups) entries
 
-  abbrev xs : List Posting
-  xs = postings first second two width entries
+  abbrev xs : List TalliedRead
+  xs = talliedReads first second two width entries
 
   -- ---- the counters
 
@@ -32,7 +31,7 @@ module _ (first second : ReadTally) (two : Bool) (width : ℕ) (entries : List �
   first-small : countersSmall (countersPosted xs k) ≡ true → countersSmall (countersRaised ts k) ≡ true
   first-small = go two
     where
-      go : (b : Bool) → countersSmall (countersPosted (postings first second b width entries) k) ≡ true → countersSmall (countersRaised ts k) ≡ true
+      go : (b : Bool) → countersSmall (countersPosted (talliedReads first second b width entries) k) ≡ true → countersSmall (countersRaised ts k) ≡ true
       go true e = counters-before (targetsIn (second .groups) (drop width entries)) (countersRaised ts k) e
       go false e = e
 
@@ -95,7 +94,7 @@ module _ (first second : ReadTally) (two : Bool) (width : ℕ) (entries : List �
         let f = not-true (x .fits) h in
         record { fits = f ∙ sym (go two (sym small₁ ∙ f)); ledger = λ t. clash t f }
       where
-        go : (b : Bool) → ledgerSmall l₁ ≡ false → booksSmall (postedAll (postings first second b width entries) books) ≡ false
+        go : (b : Bool) → ledgerSmall l₁ ≡ false → booksSmall (postedAll (talliedReads first second b width entries) books) ≡ false
         go true e =
             let s : ledgerSmall l₂ ≡ false = by-test (ledgerSmall l₂) (λ t. clash (ledger-before (second .role) (second .state) (addedTo (targetsIn (second .groups) (drop width entries))) l₁ t) e) (λ f. f) in
             rw s

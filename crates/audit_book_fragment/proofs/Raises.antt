@@ -1,5 +1,4 @@
 -- The counters raised by reads, and whether they have 64 bits.
--- Assumes nothing.
 use mathlib.Core.Path.{_≡_, _∙_}
 use mathlib.Core.Bool.{Bool, true, false, _&&_}
 use mathlib.Core.List.{List}

@@ -33,33 +33,33 @@ severalCount n = cond (ltb 1 n) n 0
 -- ---- reads, by the entries that list their groups
 
 -- a read, and the entries at whose front its groups stand
-pub record Posting : Type 0 where
+pub record TalliedRead : Type 0 where
   pub tally : ReadTally
   pub entries : List ℕ
 
-abbrev pub postingTargets : Posting → List ℕ
-postingTargets x = targetsIn (x .tally .groups) (x .entries)
+abbrev pub talliedTargets : TalliedRead → List ℕ
+talliedTargets x = targetsIn (x .tally .groups) (x .entries)
 
-abbrev pub postedOne : Posting → Books → Books
+abbrev pub postedOne : TalliedRead → Books → Books
 postedOne x books =
     record {
-      ledger = ledgerRaised (x .tally .role) (x .tally .state) (addedTo (postingTargets x)) (books .ledger);
-      counters = countersRaised (postingTargets x) (books .counters);
+      ledger = ledgerRaised (x .tally .role) (x .tally .state) (addedTo (talliedTargets x)) (books .ledger);
+      counters = countersRaised (talliedTargets x) (books .counters);
     }
 
 -- the books with some reads
-abbrev pub postedAll : List Posting → Books → Books
+abbrev pub postedAll : List TalliedRead → Books → Books
 postedAll [] books = books
 postedAll (x ∷ xs) books = postedAll xs (postedOne x books)
 
 -- the counters with some reads
-abbrev pub countersPosted : List Posting → Counters → Counters
+abbrev pub countersPosted : List TalliedRead → Counters → Counters
 countersPosted [] k = k
-countersPosted (x ∷ xs) k = countersPosted xs (countersRaised (postingTargets x) k)
+countersPosted (x ∷ xs) k = countersPosted xs (countersRaised (talliedTargets x) k)
 
 -- one read with its groups at the front of the entries, or a second one `width` numbers behind it
-abbrev pub postings : ReadTally → ReadTally → Bool → ℕ → List ℕ → List Posting
-postings first second two width entries =
+abbrev pub talliedReads : ReadTally → ReadTally → Bool → ℕ → List ℕ → List TalliedRead
+talliedReads first second two width entries =
     record { tally = first; entries = entries } ∷ cond two (record { tally = second; entries = drop width entries } ∷ []) []
 
 -- ---- 17
@@ -79,7 +79,7 @@ pub record Tallied (t : ReadTally) : Type 0 where
   pub groups : t .groups ≤ maxGroups
 
 -- a read whose targets have a counter of each kind
-pub record Postable (targets : ℕ) (x : Posting) : Type 0 where
+pub record Postable (targets : ℕ) (x : TalliedRead) : Type 0 where
   pub tallied : Tallied (x .tally)
   pub targeted : Targeted (x .tally .groups) (x .entries) targets
 
@@ -111,11 +111,11 @@ pub record FragmentPostable (first second : ReadTally) (two : Bool) (width : ℕ
 -- and for which they have room
 pub record FragmentRaisable (first second : ReadTally) (two : Bool) (width : ℕ) (entries : List ℕ) (k : Counters) : Type 0 where
   pub postable : FragmentPostable first second two width entries k
-  pub fits : countersSmall (countersPosted (postings first second two width entries) k) ≡ true
+  pub fits : countersSmall (countersPosted (talliedReads first second two width entries) k) ≡ true
 
 -- ---- what is answered
 
 -- whether the books have room for reads, and if so the ledger with them
-pub record BooksPosted (xs : List Posting) (books : Books) (r : Posted) : Type 0 where
+pub record BooksPosted (xs : List TalliedRead) (books : Books) (r : Posted) : Type 0 where
   pub fits : r .fits ≡ booksSmall (postedAll xs books)
   pub ledger : r .fits ≡ true → r .ledger ≡ postedAll xs books .ledger

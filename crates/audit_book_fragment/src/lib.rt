@@ -4,7 +4,7 @@ ghost use mathlib.Core.Bool.{true};
 ghost use Rattle.promises.specs.Slice.{old};
 ghost use Rattle.audit_ledger.specs.Booking.{countersOf, lentCounters, leftCounters};
 ghost use Rattle.audit_counters.specs.Targets.{targetsIn};
-ghost use Rattle.audit_book_fragment.specs.Books.{singleCount, severalCount, booksOf, countersRaised, countersPosted, postings, countersSmall, CountersRaisable, CountersFittable, FragmentPostable, FragmentRaisable, BooksPosted};
+ghost use Rattle.audit_book_fragment.specs.Books.{singleCount, severalCount, booksOf, countersRaised, countersPosted, talliedReads, countersSmall, CountersRaisable, CountersFittable, FragmentPostable, FragmentRaisable, BooksPosted};
 use audit_book_read::Posted;
 use audit_book_read::added_by;
 use audit_book_read::post_read;
@@ -105,7 +105,7 @@ pub fn post_fragment(
     width: usize,
 ) -> Posted
     requires { ⌜ FragmentPostable first second two width (now entries) (countersOf (now placements) (now singles) (now multi)) ⌝ }
-    ensures { λ r. ⌜ BooksPosted (postings first second two width (old entries)) (booksOf ledger (old placements) (old singles) (old multi)) r ⌝ }
+    ensures { λ r. ⌜ BooksPosted (talliedReads first second two width (old entries)) (booksOf ledger (old placements) (old singles) (old multi)) r ⌝ }
 {
     let one = post_read(
         ledger,
@@ -162,7 +162,7 @@ pub fn raise_fragment(
     width: usize,
 )
     requires { ⌜ FragmentRaisable first second two width (now entries) (countersOf (now placements) (now singles) (now multi)) ⌝ }
-    ensures { λ _. ⌜ leftCounters placements singles multi ≡ countersPosted (postings first second two width (old entries)) (lentCounters placements singles multi) ⌝ }
+    ensures { λ _. ⌜ leftCounters placements singles multi ≡ countersPosted (talliedReads first second two width (old entries)) (lentCounters placements singles multi) ⌝ }
 {
     raise_counters(placements, singles, multi, entries, first.groups);
     if two {

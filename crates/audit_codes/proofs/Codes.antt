@@ -1,5 +1,4 @@
 -- Numbers of the last mode and of the last role.
--- Assumes nothing.
 use mathlib.Core.Path.{_≡_, refl}
 use Prim.Native.Nat.{ℕ, zero, suc}
 use Rattle.audit_model.specs.declared.settings.AuditInputMode.the-variants as modes

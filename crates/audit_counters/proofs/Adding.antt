@@ -1,5 +1,4 @@
 -- Numbers raised at the targets that count, and numbers with marks added: how far they grow.
--- Assumes nothing.
 use mathlib.Core.Path.{_≡_, refl, sym, ap, _∙_}
 use mathlib.Core.Bool.{Bool, true, false}
 use mathlib.Core.List.{List, [], _∷_}

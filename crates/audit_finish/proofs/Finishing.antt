@@ -1,5 +1,4 @@
 -- What a finish answers: a refusal with the sheet of nothing, or the sheet of its state.
--- Assumes nothing.
 use mathlib.Core.Path.{_≡_, refl, sym, ap, _∙_}
 use mathlib.Core.Bool.{Bool, true, false, not}
 use mathlib.Core.List.{List, []}

@@ -1,5 +1,4 @@
 -- Books that count their reads, in numbers of 64 bits, agree with themselves.
--- Assumes nothing.
 use mathlib.Core.Path.{_≡_, refl, sym, _∙_}
 use mathlib.Core.Bool.{true, _&&_}
 use mathlib.Core.Logic.{inl, inr}

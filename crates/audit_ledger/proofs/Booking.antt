@@ -1,5 +1,4 @@
 -- Reads booked in two parts; booking keeps the lengths of what is kept.
--- Assumes nothing.
 use mathlib.Core.Path.{_≡_, refl}
 use mathlib.Core.Bool.{true, _&&_}
 use mathlib.Core.List.{List, [], _∷_, _++_}

@@ -1,5 +1,4 @@
 -- Books that grew by some reads: by none, by one, by reads in two parts, by all that were booked.
--- Assumes nothing.
 use mathlib.Core.Path.{_≡_, refl, sym, ap, _∙_}
 use mathlib.Core.Bool.{Bool, true, false, _&&_, _||_, or-assoc}
 use mathlib.Core.Logic.{inl, inr}

@@ -1,5 +1,4 @@
 -- What a fragment call holds and reports: a refused one leaves everything as it was, and an index is searched by.
--- Assumes nothing.
 use mathlib.Core.Path.{_≡_, refl, ap}
 use mathlib.Core.Bool.{true}
 use mathlib.Core.List.{List}

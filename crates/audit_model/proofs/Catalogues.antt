@@ -1,5 +1,4 @@
 -- The ranks of a valid catalogue as an audit counts by them.
--- Assumes nothing.
 use mathlib.Core.Path.{refl}
 use mathlib.Core.Bool.{Bool}
 use mathlib.Core.Logic.{inl, inr}

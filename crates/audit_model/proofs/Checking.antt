@@ -1,5 +1,4 @@
 -- What the checks of an accepted fragment have shown.
--- Assumes nothing.
 use mathlib.Core.Path.{_≡_}
 use mathlib.Core.Bool.{true}
 use mathlib.Core.List.{List}

@@ -1,5 +1,4 @@
 -- What the opening's checks have shown, and which numbers they give.
--- Assumes nothing.
 use mathlib.Core.Path.{_≡_}
 use mathlib.Core.Bool.{Bool, true, false, not, _||_}
 use Prim.Native.Nat.{ℕ, _≤_}

@@ -1,5 +1,4 @@
 -- Lists put into parts of the entries: each stands at the front of its part, and touches no other.
--- Assumes nothing.
 use mathlib.Core.Path.{_≡_, refl, sym, ap, ap₂, _∙_}
 use mathlib.Core.Bool.{true}
 use mathlib.Core.List.{List, [], _∷_, _++_, map, append-nil}

@@ -1,5 +1,4 @@
 -- What a sheet hides.
--- Assumes nothing.
 use mathlib.Core.Path.{_≡_, refl}
 use mathlib.Core.Bool.{Bool, true, false}
 use Rattle.catalogue.specs.Catalogue.{Target, isMapped}

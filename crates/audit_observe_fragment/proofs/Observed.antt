@@ -1,5 +1,4 @@
 -- The reads of a checked fragment observed: their rows and entries, what is posted of them, and refusal 17.
--- Assumes nothing.
 use mathlib.Core.Path.{_≡_, refl, sym, ap, subst, _∙_}
 use mathlib.Core.Bool.{Bool, true, false, true≢false}
 use mathlib.Core.List.{List, [], _∷_, map, head-eq-of-cons-eq, tail-eq-of-cons-eq}
@@ -45,7 +44,7 @@ use Rattle.audit_read_checks.specs.declared.SearchedReads.{SearchedReads}
 use Rattle.audit_observe_read.specs.Sights.{wayIf, asObserved}
 use Rattle.audit_observe_reads.specs.Reads.{observedReads, roomsRefusal, ReadsObserved}
 use Rattle.audit_observe_reads.proofs.Filled.{Within, within-placed, within-cleared, within-zeros}
-use Rattle.audit_book_answer.specs.Answers.{tallyOf, answerPostings, AnswerPostable, AnswerPosted}
+use Rattle.audit_book_answer.specs.Answers.{tallyOf, answerReads, AnswerPostable, AnswerPosted}
 use Rattle.audit_book_answer.proofs.Posted.{AllPost, posted-all, books-countable}
 use Rattle.audit_observe_fragment.specs.Observe.{observedRefusal, RankedLent, RankedObserved}
 use Rattle.audit_observe_fragment.proofs.Seeing.{sight-short, sight-posts, sight-postable}
@@ -157,7 +156,7 @@ module _ (s : Settings) (ss : List (List ℕ)) (way : Way) (ranked : List ℕ) (
   -- what is told of the reads of an answer: their targets have counters, and what is posted of them is what is booked of them
   pub record AnswerTold (mode : AuditInputMode) (k : Counters) (a : FragmentAnswer) : Type 0 where
     pub postable : AnswerPostable a first second (4 * shareOf mode P) entries k
-    pub posts : ((n : ℕ) → a ≡ fragments.Refused n → ⊥) → AllPost ranked (answerPostings a first second (4 * shareOf mode P) entries) (byMode mode (observedBooked s ss first one) (observedBooked s ss second two))
+    pub posts : ((n : ℕ) → a ≡ fragments.Refused n → ⊥) → AllPost ranked (answerReads a first second (4 * shareOf mode P) entries) (byMode mode (observedBooked s ss first one) (observedBooked s ss second two))
     pub within : ((n : ℕ) → a ≡ fragments.Refused n → ⊥) → Within buffer entries
 
   module _ (k : Counters) (e : n ≡ length (k .placements)) (c : CountersLent (length (k .placements)) k) where
@@ -199,10 +198,10 @@ module _ (s : Settings) (ss : List (List ℕ)) (way : Way) (ranked : List ℕ) (
 
       -- 17 is the test of what is posted
       fits-countable : (l : Ledger) → ((m : ℕ) → r ≡ fragments.Refused m → ⊥)
-          → countable (bookedAll ranked (byMode (s .mode) (observedBooked s ss first one) (observedBooked s ss second two)) (books l)) ≡ booksSmall (postedAll (answerPostings r first second (4 * shareOf (s .mode) P) entries) (books l))
+          → countable (bookedAll ranked (byMode (s .mode) (observedBooked s ss first one) (observedBooked s ss second two)) (books l)) ≡ booksSmall (postedAll (answerReads r first second (4 * shareOf (s .mode) P) entries) (books l))
       fits-countable l ne =
           books-countable _
-          ∙ ap booksSmall (sym (posted-all ranked (answerPostings r first second (4 * shareOf (s .mode) P) entries) (byMode (s .mode) (observedBooked s ss first one) (observedBooked s ss second two)) (told .posts ne) (books l)))
+          ∙ ap booksSmall (sym (posted-all ranked (answerReads r first second (4 * shareOf (s .mode) P) entries) (byMode (s .mode) (observedBooked s ss first one) (observedBooked s ss second two)) (told .posts ne) (books l)))
 
       abbrev written : List ℕ
       written = inParts (4 * shareOf (s .mode) P) 0 (map (observedEntries s ss ranked) (byMode (s .mode) one two)) (cleared buffer)
@@ -227,31 +226,31 @@ module _ (s : Settings) (ss : List (List ℕ)) (way : Way) (ranked : List ℕ) (
             not-refused : (a : FragmentAnswer) → isRefused a ≡ false → (m : ℕ) → a ≡ fragments.Refused m → ⊥
             not-refused a e m g = true≢false (sym (ap isRefused g) ∙ e)
 
-            seventeen : ((m : ℕ) → r ≡ fragments.Refused m → ⊥) → booksSmall (postedAll (answerPostings r first second (4 * shareOf (s .mode) P) entries) (books l)) ≡ false → refusal ≡ 17
+            seventeen : ((m : ℕ) → r ≡ fragments.Refused m → ⊥) → booksSmall (postedAll (answerReads r first second (4 * shareOf (s .mode) P) entries) (books l)) ≡ false → refusal ≡ 17
             seventeen ne z = rw (accepted-room ne, fits-countable l ne, z)
 
             go : (a : FragmentAnswer) → r ≡ a → AnswerPosted a first second (4 * shareOf (s .mode) P) entries (books l) r′ → (((m : ℕ) → r ≡ fragments.Refused m → ⊥) × (refusal ≡ 17))
             go (fragments.Refused m) e p = clash p f
             go (fragments.Single m) e p =
                 let ne : (m : ℕ) → r ≡ fragments.Refused m → ⊥ = λ n g. not-refused (fragments.Single m) refl n (sym e ∙ g) in
-                (ne, seventeen ne (ap (λ a. booksSmall (postedAll (answerPostings a first second (4 * shareOf (s .mode) P) entries) (books l))) e ∙ sym (p .fits) ∙ f))
+                (ne, seventeen ne (ap (λ a. booksSmall (postedAll (answerReads a first second (4 * shareOf (s .mode) P) entries) (books l))) e ∙ sym (p .fits) ∙ f))
             go (fragments.Paired m) e p =
                 let ne : (m : ℕ) → r ≡ fragments.Refused m → ⊥ = λ n g. not-refused (fragments.Paired m) refl n (sym e ∙ g) in
-                (ne, seventeen ne (ap (λ a. booksSmall (postedAll (answerPostings a first second (4 * shareOf (s .mode) P) entries) (books l))) e ∙ sym (p .fits) ∙ f))
+                (ne, seventeen ne (ap (λ a. booksSmall (postedAll (answerReads a first second (4 * shareOf (s .mode) P) entries) (books l))) e ∙ sym (p .fits) ∙ f))
 
         -- there is room: the refusal is that of the rooms
         fitting : r′ .fits ≡ true → refusal ≡ rooms
         fitting f = go r refl posted
           where
-            counted : ((m : ℕ) → r ≡ fragments.Refused m → ⊥) → booksSmall (postedAll (answerPostings r first second (4 * shareOf (s .mode) P) entries) (books l)) ≡ true → refusal ≡ rooms
+            counted : ((m : ℕ) → r ≡ fragments.Refused m → ⊥) → booksSmall (postedAll (answerReads r first second (4 * shareOf (s .mode) P) entries) (books l)) ≡ true → refusal ≡ rooms
             counted ne z = rw (accepted-room ne, fits-countable l ne, z)
 
             go : (a : FragmentAnswer) → r ≡ a → AnswerPosted a first second (4 * shareOf (s .mode) P) entries (books l) r′ → refusal ≡ rooms
             go (fragments.Refused m) e p =
                 let o = outcome-number rooms m _ (sym (seen .answer) ∙ ap fragmentOutcome e) in
                 sym (first-stands rooms _ (λ z. o .1 (sym (o .0) ∙ z)))
-            go (fragments.Single m) e p = counted (λ n g. true≢false (sym (ap isRefused (sym e ∙ g)))) (ap (λ a. booksSmall (postedAll (answerPostings a first second (4 * shareOf (s .mode) P) entries) (books l))) e ∙ sym (p .fits) ∙ f)
-            go (fragments.Paired m) e p = counted (λ n g. true≢false (sym (ap isRefused (sym e ∙ g)))) (ap (λ a. booksSmall (postedAll (answerPostings a first second (4 * shareOf (s .mode) P) entries) (books l))) e ∙ sym (p .fits) ∙ f)
+            go (fragments.Single m) e p = counted (λ n g. true≢false (sym (ap isRefused (sym e ∙ g)))) (ap (λ a. booksSmall (postedAll (answerReads a first second (4 * shareOf (s .mode) P) entries) (books l))) e ∙ sym (p .fits) ∙ f)
+            go (fragments.Paired m) e p = counted (λ n g. true≢false (sym (ap isRefused (sym e ∙ g)))) (ap (λ a. booksSmall (postedAll (answerReads a first second (4 * shareOf (s .mode) P) entries) (books l))) e ∙ sym (p .fits) ∙ f)
 
         -- the answer stands
         pub observed-done : r′ .fits ≡ true → RankedObserved s ss way ranked first second one two l k r buffer entries

@@ -1,5 +1,4 @@
 -- The reads that were observed: what their rows and entries tell of their groups.
--- Assumes nothing.
 use mathlib.Core.Path.{_≡_, refl, ap, _∙_}
 use mathlib.Core.Bool.{Bool, true, false, cond}
 use mathlib.Core.List.{List, []}

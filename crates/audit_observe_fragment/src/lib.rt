@@ -10,7 +10,7 @@ use audit_ledger::Ledger;
 use audit_model::calls::FragmentAnswer;
 use audit_model::settings::MateRole;
 use audit_model::settings::Settings;
-use audit_observe_reads::observe_reads;
+use audit_observe_reads::search_reads;
 use audit_observe_reads::share_of;
 use audit_read_checks::SearchedReads;
 use map_every_start::entries::clear_entries;
@@ -45,7 +45,7 @@ pub fn observe_ranked(
 {
     let mode = settings.mode;
     let width = 4 * share_of(mode, entries.len() / 4);
-    let answer = observe_reads(
+    let answer = search_reads(
         entries,
         bases,
         ends,

@@ -47,7 +47,7 @@ fn unsearched(remap: bool) -> Mapping
 }
 
 // Observes one read into `width` numbers of the entries from a place on.
-pub fn observe_read(
+pub fn search_read(
     entries: &mut [u64],
     from: usize,
     width: usize,

@@ -1,5 +1,4 @@
 -- What a read leaves in a part of the entries, and what stays behind the last whole entry.
--- Assumes nothing.
 use mathlib.Core.Path.{_≡_, refl, sym, ap, ap₂, _∙_}
 use mathlib.Core.Bool.{Bool, true, false, cond}
 use mathlib.Core.List.{List, _++_}

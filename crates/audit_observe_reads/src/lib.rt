@@ -11,7 +11,7 @@ use audit_model::calls::FragmentAnswer;
 use audit_model::calls::Mates;
 use audit_model::settings::AuditInputMode;
 use audit_model::settings::Settings;
-use audit_observe_read::observe_read;
+use audit_observe_read::search_read;
 use map_answers::answer::MapAnswer;
 use map_answers::answer::Mapping;
 use map_every_start::entries::clear_entries;
@@ -27,7 +27,7 @@ pub fn share_of(mode: AuditInputMode, entries: usize) -> usize
 }
 
 // Observes the second read of a pair, whose first one is mapped.
-fn observe_second(
+fn search_second(
     entries: &mut [u64],
     width: usize,
     bases: &[u8],
@@ -47,7 +47,7 @@ fn observe_second(
     requires { ⌜ width + width ≤ length (now entries) ⌝ }
     ensures { λ r. ⌜ SecondObserved settings (lentSequences bases ends ranked) (wayIf indexed q) (old ranked) (old read) searched width first r (old entries) (new entries) ⌝ }
 {
-    let two = observe_read(
+    let two = search_read(
         entries,
         width,
         width,
@@ -70,7 +70,7 @@ fn observe_second(
 }
 
 // Observes the reads of a fragment: 10 with every entry zero, or their rows, and their groups in the entries.
-pub fn observe_reads(
+pub fn search_reads(
     entries: &mut [u64],
     bases: &[u8],
     ends: &[usize],
@@ -93,7 +93,7 @@ pub fn observe_reads(
     let mode = settings.mode;
     clear_entries(entries);
     let width = 4 * share_of(mode, entries.len() / 4);
-    let one = observe_read(
+    let one = search_read(
         entries,
         0,
         width,
@@ -116,7 +116,7 @@ pub fn observe_reads(
     let AuditInputMode::PairedEnd = mode else {
         return FragmentAnswer::Single(mapping);
     };
-    let both = observe_second(
+    let both = search_second(
         entries,
         width,
         bases,

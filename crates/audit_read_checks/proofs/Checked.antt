@@ -1,5 +1,4 @@
 -- From the tests of a read to the answer of its check, and from the answers of two checks to that of both.
--- Assumes nothing.
 use mathlib.Core.Path.{_≡_, refl, sym, ap, _∙_}
 use mathlib.Core.Bool.{Bool, true, false, not, cond, _&&_}
 use Prim.Native.Nat.{ℕ, zero, suc}

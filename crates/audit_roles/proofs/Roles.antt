@@ -1,5 +1,4 @@
 -- The roles of a fragment's reads, by mode and number.
--- Assumes nothing.
 use mathlib.Core.Path.{_≡_, refl, sym, ap, _∙_}
 use mathlib.Core.Bool.{true, false, _&&_, and-true, and-false}
 use Prim.Native.Nat.{ℕ, zero, suc}

@@ -1,5 +1,4 @@
 -- Numbers summed one by one, and the counts of a role as a part of the table.
--- Assumes nothing.
 use mathlib.Core.Path.{_≡_, refl, ap, _∙_}
 use mathlib.Core.Bool.{Bool, true, false}
 use mathlib.Core.List.{List, _∷_, map}

@@ -1,5 +1,4 @@
 -- An observed fragment booked.
--- Assumes nothing.
 use mathlib.Core.Path.{_≡_, refl, sym, ap, ap₂, subst, _∙_}
 use mathlib.Core.Bool.{true}
 use mathlib.Core.List.{List, [], _∷_, map}
@@ -30,7 +29,7 @@ use Rattle.audit_model.proofs.Booked.{few-roles, refused-holds}
 use Rattle.audit_read_checks.specs.Checks.{byMode}
 use Rattle.audit_observe_reads.specs.Reads.{roomsRefusal, ReadsObserved}
 use Rattle.audit_observe_reads.proofs.Fragment.{not-refused}
-use Rattle.audit_book_answer.specs.Answers.{answerPostings, answerBooked, AnswerRaisable}
+use Rattle.audit_book_answer.specs.Answers.{answerReads, answerBooked, AnswerRaisable}
 use Rattle.audit_book_answer.proofs.Posted.{posted-all, books-countable}
 use Rattle.audit_observe_fragment.proofs.Observed.{AnswerTold, told}
 use Rattle.audit_tested.specs.Tested.{TestedObserved, TestedAudited}
@@ -102,10 +101,10 @@ module _ (offset : ℕ) (ss : List (List ℕ)) (way : Way) (ranked : List ℕ) (
           (h .counters) refl counters r reads-seen
 
       -- what is posted are the books with its reads
-      posted-is : postedAll (answerPostings r (roleNumber (m .role)) (roleNumber (m′ .role)) (4 * w) entries) (heldBooks h) ≡ testedBooks offset ss ranked h f
+      posted-is : postedAll (answerReads r (roleNumber (m .role)) (roleNumber (m′ .role)) (4 * w) entries) (heldBooks h) ≡ testedBooks offset ss ranked h f
       posted-is =
-          ap (λ z. postedAll (answerPostings r (roleNumber (m .role)) (roleNumber (m′ .role)) (4 * z) entries) (heldBooks h)) share
-          ∙ posted-all ranked (answerPostings r (roleNumber (m .role)) (roleNumber (m′ .role)) (4 * shareOf (s .mode) (entryCount buffer)) entries) (byMode (s .mode) (observedBooked s ss (roleNumber (m .role)) one) (observedBooked s ss (roleNumber (m′ .role)) two)) (of-answer .posts accepted) (heldBooks h)
+          ap (λ z. postedAll (answerReads r (roleNumber (m .role)) (roleNumber (m′ .role)) (4 * z) entries) (heldBooks h)) share
+          ∙ posted-all ranked (answerReads r (roleNumber (m .role)) (roleNumber (m′ .role)) (4 * shareOf (s .mode) (entryCount buffer)) entries) (byMode (s .mode) (observedBooked s ss (roleNumber (m .role)) one) (observedBooked s ss (roleNumber (m′ .role)) two)) (of-answer .posts accepted) (heldBooks h)
           ∙ ap (λ l. bookedAll ranked l (heldBooks h)) (booked-same offset s m m′ one two refl (λ e. refl) ss way ∙ ap (map (mateBooked offset s ss)) (sym reads-are))
 
       -- there is room for them
@@ -118,7 +117,7 @@ module _ (offset : ℕ) (ss : List (List ℕ)) (way : Way) (ranked : List ℕ) (
           }
 
       -- booked
-      pub audit-booked : (state : AuditState) (k : Counters) → _≡_ {A = Held} (record { state = state; counters = k }) (answerBooked ordinal (answerPostings r (roleNumber (m .role)) (roleNumber (m′ .role)) (4 * w) entries) h)
+      pub audit-booked : (state : AuditState) (k : Counters) → _≡_ {A = Held} (record { state = state; counters = k }) (answerBooked ordinal (answerReads r (roleNumber (m .role)) (roleNumber (m′ .role)) (4 * w) entries) h)
           → TestedAudited offset ss way ranked h f (record { answer = r; state = state }) k buffer entries
       audit-booked state k e =
           record {

@@ -1,5 +1,4 @@
 -- A fragment is accepted exactly where no refusal of the table has its condition.
--- Assumes nothing.
 use mathlib.Core.Path.{_≡_, refl, ap}
 use mathlib.Core.Bool.{Bool, true, false, cond}
 use mathlib.Core.Logic.{_↔_, inl, inr}

@@ -1,5 +1,4 @@
 -- What is owed of whole runs, each as one theorem about the audit as it is: seeds of 15 bases, qualities from 33 on.
--- Assumes nothing.
 use mathlib.Core.Path.{_≡_, ap}
 use mathlib.Core.Bool.{true, false}
 use mathlib.Core.List.{List, map}

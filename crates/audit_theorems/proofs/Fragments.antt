@@ -1,5 +1,4 @@
 -- One fragment call of both audits, accepted by both: every read agrees, and what is booked is the same.
--- Assumes nothing.
 use mathlib.Core.Path.{_≡_, refl, sym, ap, ap₂, _∙_}
 use mathlib.Core.Bool.{Bool, true, false, cond}
 use mathlib.Core.List.{List, [], _∷_, map}

@@ -1,5 +1,4 @@
 -- Placements in the entries of a read: those of its listed groups, and those of the groups turned round.
--- Assumes nothing.
 use mathlib.Core.Path.{_≡_, refl, ap, _∙_}
 use mathlib.Core.Bool.{Bool, true, false, cond}
 use mathlib.Core.Logic.{inl, inr}

@@ -1,5 +1,4 @@
 -- What is proved of runs of the definitions holds of runs whose calls keep their promises.
--- Assumes nothing.
 use mathlib.Core.Path.{_≡_, sym, ap, ap₂, subst, _∙_}
 use mathlib.Core.List.{List, map}
 use Prim.Native.Nat.{ℕ, _≤_}

@@ -1,5 +1,4 @@
 -- Calls one after the other: the books are the history booked, every number has 64 bits, and a call that changes nothing can be left out.
--- Assumes nothing.
 use mathlib.Core.Path.{_≡_, refl, sym, ap, _∙_}
 use mathlib.Core.Bool.{true}
 use mathlib.Core.List.{List, [], _∷_, _++_}

@@ -1,5 +1,4 @@
 -- One read observed in either way, as it is or turned round: the same row but for the work, the groups on the other strands, and the same targets.
--- Assumes nothing.
 use mathlib.Core.Path.{_≡_, refl, sym, ap, ap₂, _∙_}
 use mathlib.Core.Bool.{Bool, true, false, cond, _&&_}
 use mathlib.Core.List.{List, [], _∷_, _++_, map, map-append}

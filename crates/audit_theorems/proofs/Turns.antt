@@ -1,5 +1,4 @@
 -- Whatever pieces the input comes in, what turns hand to `write` is what `catch` writes for the whole.
--- Assumes nothing.
 use mathlib.Core.Path.{_≡_, refl, sym, ap, ap₂, subst, _∙_}
 use mathlib.Core.Bool.{Bool, true, false}
 use mathlib.Core.List.{List, [], _∷_, _++_, append-nil, append-assoc}

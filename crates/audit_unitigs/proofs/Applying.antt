@@ -1,5 +1,4 @@
 -- The refusals of a sheet that is written, in the order of the tests, and what it writes.
--- Assumes nothing.
 use mathlib.Core.Path.{_≡_, refl, sym, ap, subst, _∙_}
 use mathlib.Core.Bool.{Bool, true, false, not, _&&_}
 use mathlib.Core.List.{List, [], _∷_}

@@ -1,5 +1,4 @@
 -- Laws of single bytes, each by one computed test over all 256; above them a number is no letter, and stays itself.
--- Assumes nothing.
 use mathlib.Core.Path.{_≡_, refl, sym, ap, _∙_}
 use mathlib.Core.Bool.{Bool, true, false, cond, not, _||_, Bool·beq}
 use mathlib.Core.List.{List, [], _∷_}

@@ -1,5 +1,4 @@
 -- A read turned round: twice is the read itself; its bases by place, their codes and case; its verdict.
--- Assumes nothing.
 use mathlib.Core.Path.{_≡_, refl, sym, ap, ap₂, _∙_}
 use mathlib.Core.Bool.{Bool, true, false, cond, _&&_, _||_}
 use mathlib.Core.Logic.{_⊎_, inl, inr}

@@ -1,5 +1,4 @@
 -- Where the opening's checks pass, they pass behind every call, and calls answer as in a catalogue that was tested.
--- Assumes nothing.
 use mathlib.Core.Path.{_≡_, refl, sym, ap, ap₂, subst, _∙_}
 use mathlib.Core.List.{List, [], _∷_}
 use Prim.Native.Nat.{ℕ}

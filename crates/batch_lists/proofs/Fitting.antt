@@ -1,5 +1,4 @@
 -- Whether lists of fragments fit together, test by test.
--- Assumes nothing.
 use mathlib.Core.Path.{_≡_, sym, _∙_}
 use mathlib.Core.Bool.{Bool, true, false}
 use mathlib.Core.List.{List, []}

@@ -1,5 +1,4 @@
 -- Refusals of a list of reads, and from ranked sequences to the catalogue.
--- Assumes nothing.
 use mathlib.Core.Path.{_≡_, refl, sym, ap, _∙_}
 use mathlib.Core.Bool.{Bool, true, false}
 use mathlib.Core.List.{List, []}

@@ -1,5 +1,4 @@
 -- What the call returns and writes, from what the call behind it answers.
--- Assumes nothing.
 use mathlib.Core.Path.{_≡_, refl, ap, _∙_}
 use mathlib.Core.Bool.{true, false}
 use mathlib.Core.List.{List}

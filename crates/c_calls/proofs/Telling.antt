@@ -1,5 +1,4 @@
 -- What the calls on numbers return and write, from what the calls behind them answer.
--- Assumes nothing.
 use mathlib.Core.Path.{_≡_, refl, ap, _∙_}
 use mathlib.Core.Bool.{Bool, true, false, _&&_}
 use mathlib.Core.List.{List}

@@ -1,5 +1,4 @@
 -- Whether numbers are those of an accepted `finish`: the tests one by one, and what a sheet's numbers are.
--- Assumes nothing.
 use mathlib.Core.Path.{_≡_, refl, ap, _∙_}
 use mathlib.Core.Bool.{Bool, true, false, _&&_, _||_}
 use mathlib.Core.Logic.{_⊎_, inl, inr}

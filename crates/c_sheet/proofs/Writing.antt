@@ -1,5 +1,4 @@
 -- The numbers of a sheet written part by part, and the parts of a sheet read.
--- Assumes nothing.
 use mathlib.Core.Path.{_≡_, refl, ap, ap₂, _∙_}
 use mathlib.Core.Bool.{Bool}
 use mathlib.Core.List.{List, [], _∷_, _++_}

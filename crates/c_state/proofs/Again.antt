@@ -1,5 +1,4 @@
 -- The numbers of a state stand for it and for no other: a state is read back as it was written, and numbers are written as they were read.
--- Assumes nothing.
 use mathlib.Core.Path.{_≡_, refl, sym, ap, _∙_}
 use mathlib.Core.Bool.{Bool, true, false}
 use mathlib.Core.Logic.{_⊎_, inl, inr}

@@ -1,5 +1,4 @@
 -- Whether numbers are those of a state: the tests one by one, and what a state's numbers are.
--- Assumes nothing.
 use mathlib.Core.Path.{_≡_, refl}
 use mathlib.Core.Bool.{Bool, true, false, _||_}
 use mathlib.Core.Logic.{_⊎_, inl, inr}

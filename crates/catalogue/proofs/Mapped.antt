@@ -1,5 +1,4 @@
 -- The mapped targets of a catalogue: their ranks, and that the order of supply changes nothing but places.
--- Assumes nothing.
 use mathlib.Core.Path.{_≡_, refl, sym, ap, ap₂, _∙_}
 use mathlib.Core.Bool.{true, not}
 use mathlib.Core.Logic.{_⊎_, inl, inr}

@@ -1,5 +1,4 @@
 -- Which refusal a catalogue meets, and the ranking of one that meets none.
--- Assumes nothing.
 use mathlib.Core.Path.{_≡_, sym, ap, _∙_}
 use mathlib.Core.Bool.{true, false}
 use mathlib.Core.List.{List, _++_, map}

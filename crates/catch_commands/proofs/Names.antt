@@ -1,5 +1,4 @@
 -- Whether a list of bytes is an identifier, byte by byte.
--- Assumes nothing.
 use mathlib.Core.Path.{_≡_, refl, sym, _∙_}
 use mathlib.Core.Bool.{true, false}
 use mathlib.Core.List.{List}

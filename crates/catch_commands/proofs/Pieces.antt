@@ -1,5 +1,4 @@
 -- Bytes taken from a stream: where they are there, where they are not, and whatever follows.
--- Assumes nothing.
 use mathlib.Core.Path.{_≡_, sym, ap, _∙_}
 use mathlib.Core.Bool.{Bool, true, false}
 use mathlib.Core.List.{List, [], _++_, append-nil}

@@ -1,5 +1,4 @@
 -- The lines of a finish, answer by answer, and that they are what `catch` writes at its end.
--- Assumes nothing.
 use mathlib.Core.Path.{_≡_, sym, ap, _∙_}
 use mathlib.Core.Bool.{true}
 use mathlib.Core.List.{List, [], _∷_}

@@ -1,5 +1,4 @@
 -- The answer of an audited fragment: its groups stand in the entries, and its lines have room.
--- Assumes nothing.
 use mathlib.Core.Path.{_≡_, refl, sym, ap, subst, _∙_}
 use mathlib.Core.List.{List, [], _∷_, map, head-eq-of-cons-eq}
 use Prim.Native.Nat.{ℕ, _+_, _*_, _≤_, _<_, _/_}

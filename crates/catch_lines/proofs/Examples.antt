@@ -1,5 +1,4 @@
 -- Lines written out.
--- Assumes nothing.
 use mathlib.Core.Path.{_≡_, refl}
 use Rattle.catch_text.specs.Text.{text, digits}
 use Rattle.map_by_index.specs.declared.work.MappingWork.{MappingWork}

@@ -1,5 +1,4 @@
 -- What is written for the example of the rules.
--- Assumes nothing.
 use mathlib.Core.Path.{_≡_, refl}
 use Rattle.bases.specs.Base.{codeOf, complementOf, upperOf, isCapital}
 use Rattle.bases.specs.Read.{reverseComplement}

@@ -1,5 +1,4 @@
 -- What each command writes, whatever follows the bytes that are there; and what is written where the stream ends.
--- Assumes nothing.
 use mathlib.Core.Path.{_≡_, refl, ap, _∙_}
 use mathlib.Core.Bool.{true, false, cond, _||_}
 use mathlib.Core.List.{List, [], _∷_, _++_}

@@ -1,5 +1,4 @@
 -- The opening of a job: as by the index, which is that of its targets.
--- Assumes nothing.
 use mathlib.Core.Path.{_≡_, refl, sym, ap, _∙_}
 use mathlib.Core.Bool.{true}
 use mathlib.Core.List.{List, [], _∷_}

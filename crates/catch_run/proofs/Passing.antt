@@ -1,5 +1,4 @@
 -- Where the opening's checks pass, a fragment is lent what it needs, and they pass behind it.
--- Assumes nothing.
 use mathlib.Core.Path.{_≡_, refl, sym, ap, subst, _∙_}
 use mathlib.Core.Bool.{true}
 use mathlib.Core.List.{List}

@@ -1,5 +1,4 @@
 -- What a step of a job that was opened does: a fragment, or the end.
--- Assumes nothing.
 use mathlib.Core.Path.{_≡_, sym, ap, ap₂, subst, subst₂, _∙_}
 use mathlib.Core.List.{List, [], _∷_, _++_, map, append-nil}
 use Prim.Native.Nat.{ℕ, zero, suc, _+_, _*_, _≤_}

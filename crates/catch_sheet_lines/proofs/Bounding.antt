@@ -1,5 +1,4 @@
 -- A catalogue within its bounds lends its names.
--- Assumes nothing.
 use mathlib.Core.Path.{_≡_}
 use mathlib.Core.Bool.{true, _&&_}
 use mathlib.Core.List.{List, []}

@@ -1,5 +1,4 @@
 -- Steps of a job, and what is at hand between them.
--- Assumes nothing.
 use mathlib.Core.Path.{_≡_, refl, subst}
 use mathlib.Core.Bool.{Bool, true, false}
 use mathlib.Core.List.{List}

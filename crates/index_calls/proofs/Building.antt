@@ -1,5 +1,4 @@
 -- What a build answers: the refusal of the ranking, the build of its sequences, and room.
--- Assumes nothing.
 use mathlib.Core.Path.{_≡_, refl, sym, ap, _∙_}
 use mathlib.Core.List.{List, _++_}
 use Prim.Native.Nat.{ℕ, zero, suc, _+_, _<_, _≤_}

@@ -1,5 +1,4 @@
 -- Search in keys that do not fall, and the postings of a key.
--- Assumes nothing.
 use mathlib.Core.Path.{_≡_, ap}
 use mathlib.Core.Logic.{_⊎_, inl, inr}
 use mathlib.Core.List.{List}

@@ -1,5 +1,4 @@
 -- How the test of a lent index goes: one posting, one row after the other, a block of rows, all rows; and what the first and last bases of a block tell.
--- Assumes nothing.
 use mathlib.Core.Path.{_≡_, refl, sym, ap, subst, _∙_}
 use mathlib.Core.Bool.{Bool, true, false, _&&_}
 use mathlib.Core.Logic.{_⊎_, inl, inr}

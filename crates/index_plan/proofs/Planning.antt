@@ -1,5 +1,4 @@
 -- From the ranking of a catalogue to its sequences by rank, and the answers of the calls on its index.
--- Assumes nothing.
 use mathlib.Core.Path.{_≡_, refl, sym, ap, ap₂, _∙_}
 use mathlib.Core.Bool.{Bool, true, false}
 use mathlib.Core.Logic.{inl, inr}

@@ -1,5 +1,4 @@
 -- Four capitals at once: their codes out of the bytes of a word, and the key that a product puts together.
--- Assumes nothing.
 use mathlib.Core.Path.{_≡_, refl, ap, _∙_}
 use mathlib.Core.Bool.{true}
 use mathlib.Core.List.{List, [], _∷_}

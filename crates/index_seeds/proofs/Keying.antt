@@ -1,5 +1,4 @@
 -- The laws of a seed's key: one base more at its end, how large it can be, and the step to the next start.
--- Assumes nothing.
 use mathlib.Core.Path.{_≡_, refl, ap}
 use mathlib.Core.Bool.{true}
 use mathlib.Core.List.{List, [], _∷_, _++_}

@@ -1,5 +1,4 @@
 -- Windows: where they fit, and how long they are.
--- Assumes nothing.
 use mathlib.Core.Path.{_≡_}
 use mathlib.Core.Bool.{true}
 use mathlib.Core.List.{List}

@@ -1,5 +1,4 @@
 -- The worked examples hold: each is computed.
--- Assumes nothing.
 use mathlib.Core.Path.{refl}
 use Rattle.bases.specs.Base.{codeOf, complementOf, upperOf, isCapital}
 use Rattle.bases.specs.Read.{reverseComplement}

@@ -1,5 +1,4 @@
 -- A test that antt computes at every number below a bound, turned into its fact at each.
--- Assumes nothing.
 use mathlib.Core.Path.{_≡_, ap, _∙_}
 use mathlib.Core.Bool.{Bool, true, _&&_}
 use mathlib.Core.Logic.{_⊎_, inl, inr}

@@ -1,5 +1,4 @@
 -- Going by cases on a test or on two numbers.
--- Assumes nothing.
 use mathlib.Core.Path.{_≡_, refl, sym, _∙_}
 use mathlib.Core.Bool.{Bool, true, false, true≢false, _&&_, Bool·beq}
 use mathlib.Core.Logic.{_⊎_, inl, inr}

@@ -1,5 +1,4 @@
 -- Sequences with ends: how a loop over them goes on, and a sequence by its place.
--- Assumes nothing.
 use mathlib.Core.Path.{_≡_, refl, sym, ap, _∙_}
 use mathlib.Core.Bool.{Bool, true, false, _&&_}
 use mathlib.Core.List.{List, [], _∷_}

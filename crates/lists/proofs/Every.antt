@@ -1,5 +1,4 @@
 -- A test of every element: from a place on, at a place, of a joined list.
--- Assumes nothing.
 use mathlib.Core.Path.{_≡_, refl, sym, ap, _∙_}
 use mathlib.Core.Bool.{Bool, true, false, _&&_, and-assoc}
 use mathlib.Core.Logic.{inl, inr}

@@ -1,5 +1,4 @@
 -- What a filtered list has; a filtered joined list; a stretch that passes.
--- Assumes nothing.
 use mathlib.Core.Path.{_≡_, refl, ap, _∙_}
 use mathlib.Core.Bool.{Bool, true, false}
 use mathlib.Core.Logic.{inl, inr}

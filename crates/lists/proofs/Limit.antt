@@ -1,5 +1,4 @@
 -- What a stopped search finds: the first matches, up to one past the limit.
--- Assumes nothing.
 use mathlib.Core.Path.{_≡_, refl, ap}
 use mathlib.Core.Bool.{Bool, true, false}
 use mathlib.Core.Logic.{_↔_}

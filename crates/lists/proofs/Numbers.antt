@@ -1,5 +1,4 @@
 -- Consecutive numbers: which they are, and two lists of them joined.
--- Assumes nothing.
 use mathlib.Core.Path.{_≡_, ap}
 use mathlib.Core.Logic.{inl, inr}
 use mathlib.Core.List.{_∷_, _++_}

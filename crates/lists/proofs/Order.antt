@@ -1,5 +1,4 @@
 -- Ascending lists: joined, filtered, mapped, by their places; two with the same members are one list.
--- Assumes nothing.
 use mathlib.Core.Path.{_≡_, refl, sym, ap₂, _∙_}
 use mathlib.Core.Bool.{Bool, true, false}
 use mathlib.Core.Logic.{_⊎_, inl, inr, ⊎-elim}

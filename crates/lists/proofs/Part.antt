@@ -1,5 +1,4 @@
 -- An ascending part of an ascending list that holds every match: the same matches, and no longer a search.
--- Assumes nothing.
 use mathlib.Core.Path.{_≡_, refl, sym, ap, _∙_}
 use mathlib.Core.Bool.{Bool, true, false}
 use mathlib.Core.Logic.{_⊎_, inl, inr, ⊎-elim}

@@ -1,5 +1,4 @@
 -- Numbers raised at some places: how many there are, what each becomes, and some places and then more.
--- Assumes nothing.
 use mathlib.Core.Path.{_≡_, refl, _∙_}
 use mathlib.Core.Bool.{Bool, true, false}
 use mathlib.Core.Logic.{inl, inr}

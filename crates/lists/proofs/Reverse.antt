@@ -1,5 +1,4 @@
 -- Reversed lists: by their places, mapped, and tested.
--- Assumes nothing.
 use mathlib.Core.Path.{_≡_, refl, sym, ap, _∙_}
 use mathlib.Core.Bool.{Bool, and-true, and-comm}
 use mathlib.Core.Logic.{_⊎_, inl, inr}

@@ -1,5 +1,4 @@
 -- The test of two lists says that they are equal.
--- Assumes nothing.
 use mathlib.Core.Path.{_≡_, refl, sym, ap₂}
 use mathlib.Core.Bool.{Bool, true, false, _&&_, and-true as and-rest, and-assoc}
 use mathlib.Core.List.{List, [], _∷_}

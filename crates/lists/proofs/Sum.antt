@@ -1,5 +1,4 @@
 -- The sum of numbers: of zeros, of numbers given alike or as two parts, and of numbers that are raised at some places.
--- Assumes nothing.
 use mathlib.Core.Path.{_≡_, refl, _∙_}
 use mathlib.Core.Logic.{inl, inr}
 use mathlib.Core.List.{List, [], _∷_, map}

@@ -1,5 +1,4 @@
 -- The end of a list, lent and put back: alone, or once the part before it is back.
--- Assumes nothing.
 use mathlib.Core.Path.{_≡_, ap, _∙_}
 use mathlib.Core.List.{List, _++_, append-nil}
 use Prim.Native.Nat.{ℕ, _-_, _≤_}

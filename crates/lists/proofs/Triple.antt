@@ -1,5 +1,4 @@
 -- The lexicographic order of three numbers is strict and total.
--- Assumes nothing.
 use mathlib.Core.Path.{_≡_, sym}
 use mathlib.Core.Bool.{true, false}
 use mathlib.Core.Logic.{_⊎_, inl, inr}

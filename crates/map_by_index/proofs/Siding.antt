@@ -1,5 +1,4 @@
 -- One side of a search: the candidates that are left on it, and the postings that it has examined.
--- Assumes nothing.
 use mathlib.Core.Path.{_≡_, refl, sym, ap, _∙_}
 use mathlib.Core.Bool.{Bool, true, false}
 use mathlib.Core.List.{List, [], _∷_, map}

@@ -1,6 +1,5 @@
 -- The candidates of a seed are an ascending part of all places that holds every match of their strand, so that a search by
 -- index finds what a search at every start finds, and compares no more.
--- Assumes nothing.
 use mathlib.Core.Path.{_≡_, refl, sym, ap, _∙_}
 use mathlib.Core.Bool.{Bool, true, false, cond, _&&_}
 use mathlib.Core.Logic.{_⊎_, inl, inr}

@@ -1,5 +1,4 @@
 -- The rarest seed, said plainly: of the offsets that are tried none has fewer postings, and each earlier one has more.
--- Assumes nothing.
 use mathlib.Core.Path.{_≡_, refl}
 use mathlib.Core.Bool.{Bool, true, false}
 use mathlib.Core.Logic.{_⊎_, inl, inr}

@@ -1,5 +1,4 @@
 -- A cursor that passes postings over until one has room.
--- Assumes nothing.
 use mathlib.Core.Path.{_≡_, refl}
 use mathlib.Core.Bool.{Bool, true, false}
 use mathlib.Core.List.{List, []}

@@ -1,5 +1,4 @@
 -- The postings ahead of a cursor as a list: what it finds in them, and how many it examines.
--- Assumes nothing.
 use mathlib.Core.Path.{_≡_, ap, _∙_}
 use mathlib.Core.Bool.{true, false}
 use mathlib.Core.List.{List, [], _∷_}

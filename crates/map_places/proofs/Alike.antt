@@ -1,5 +1,4 @@
 -- Bases that agree: parts of them, and the keys of their seeds.
--- Assumes nothing.
 use mathlib.Core.Path.{_≡_, refl, sym, ap, ap₂, _∙_}
 use mathlib.Core.Bool.{true}
 use mathlib.Core.List.{List}

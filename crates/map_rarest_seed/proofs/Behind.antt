@@ -1,5 +1,4 @@
 -- The bases behind postings, one posting after the other.
--- Assumes nothing.
 use mathlib.Core.Path.{_≡_, refl, sym, ap, subst}
 use mathlib.Core.Bool.{true}
 use mathlib.Core.List.{List, []}

@@ -1,5 +1,4 @@
 -- The offsets of a read looked up one after the other, and the rarest of them.
--- Assumes nothing.
 use mathlib.Core.Path.{_≡_, refl, sym, ap, subst, subst₂, _∙_}
 use mathlib.Core.Bool.{Bool, true, false, cond}
 use mathlib.Core.List.{List, [], _∷_}

@@ -1,5 +1,4 @@
 -- A key has no fewer postings than another one each of whose postings goes on to it.
--- Assumes nothing.
 use mathlib.Core.Path.{_≡_, refl, sym, ap, subst₂, _∙_}
 use mathlib.Core.Bool.{true, _&&_}
 use mathlib.Core.Logic.{inl, inr}

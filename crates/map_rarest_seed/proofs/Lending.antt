@@ -1,5 +1,4 @@
 -- What the choice of a seed is lent: its postings are seeds, and its bases letters.
--- Assumes nothing.
 use mathlib.Core.Path.{_≡_, sym, ap, subst, _∙_}
 use mathlib.Core.Bool.{true}
 use mathlib.Core.List.{List, [], map}

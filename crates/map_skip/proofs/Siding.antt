@@ -1,5 +1,4 @@
 -- The candidates of one side, passed over, are the smaller ones of two.
--- Assumes nothing.
 use mathlib.Core.Path.{_≡_, refl, ap, _∙_}
 use mathlib.Core.Bool.{Bool, true, false, cond, _||_}
 use mathlib.Core.List.{List}

@@ -1,5 +1,4 @@
 -- Candidates of one side passed over, one after the other.
--- Assumes nothing.
 use mathlib.Core.Path.{_≡_, refl, sym}
 use mathlib.Core.Bool.{true}
 use mathlib.Core.List.{List, []}

@@ -1,5 +1,4 @@
 -- The refusals in front of `map`'s own, and how many records are copied.
--- Assumes nothing.
 use mathlib.Core.Path.{_≡_, refl, sym, ap, _∙_, subst}
 use Prim.Native.Nat.{ℕ, zero, suc, _<_, _≤_}
 use borrow.Author.Tests.{lt-leb, le-leb}

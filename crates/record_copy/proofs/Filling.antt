@@ -1,5 +1,4 @@
 -- A column that is filled from the front with a field of records.
--- Assumes nothing.
 use mathlib.Core.Path.{_≡_, refl, ap}
 use mathlib.Core.List.{List, [], _∷_, map, _++_}
 use Prim.Native.Nat.{ℕ, zero, suc, _<_, _≤_}

@@ -1,5 +1,4 @@
 -- `audit_book_answer::book_answer` meets its contract: the ledger and the counters with the reads of an answer.
--- Assumes nothing.
 use Rattle.audit_book_answer.proofs.Answering.{answer-ready, answer-ledger, answer-held}
 use borrow.Author.Needs.{needs}
 use Rattle.audit_book_answer.proofs.book_answer.Statement.{statement}

@@ -1,5 +1,4 @@
 -- `audit_book_answer::post_answer` meets its contract, answer by answer.
--- Assumes nothing.
 use mathlib.Core.Path.{refl}
 use Rattle.audit_book_answer.proofs.Answering.{refused-posted, single-postable, single-posted, pair-postable, pair-posted}
 use borrow.Author.Needs.{needs}

@@ -1,5 +1,4 @@
 -- `audit_book_answer::raise_answer` meets its contract, answer by answer.
--- Assumes nothing.
 use Rattle.audit_book_answer.proofs.Answering.{refused-raised, single-raisable, single-raised, pair-raisable, pair-raised}
 use borrow.Author.Needs.{needs}
 use Rattle.audit_book_answer.proofs.raise_answer.Statement.{statement}

@@ -1,5 +1,4 @@
 -- `audit_book_answer::tally_of` meets its contract: a state has one of six numbers.
--- Assumes nothing.
 use borrow.Author.Needs.{needs}
 use Rattle.audit_book_answer.proofs.tally_of.Statement.{statement}
 use Rattle.audit_book_answer.proofs.tally_of.Tie as tie

@@ -1,5 +1,4 @@
 -- `audit_book_fragment::counters_fit` meets its contract.
--- Assumes nothing.
 use mathlib.Core.Path.{sym, _∙_}
 use native.Mathlib.Omega.{arith}
 use Rattle.audit_ledger.specs.Booking.{countersOf}

@@ -1,5 +1,4 @@
 -- `audit_book_fragment::post_fragment` meets its contract.
--- Assumes nothing.
 use mathlib.Core.Path.{ap}
 use native.Mathlib.Omega.{arith}
 use lib.ListN.{length, length-drop}

@@ -1,5 +1,4 @@
 -- `audit_book_fragment::raise_counters` meets its contract.
--- Assumes nothing.
 use native.Mathlib.Omega.{arith}
 use Rattle.audit_ledger.specs.Booking.{countersOf}
 use borrow.Author.Needs.{needs}

@@ -1,5 +1,4 @@
 -- `audit_book_fragment::raise_fragment` meets its contract.
--- Assumes nothing.
 use native.Mathlib.Omega.{arith}
 use borrow.Author.Needs.{needs}
 use Rattle.lists.proofs.Tails.{tail-lent}

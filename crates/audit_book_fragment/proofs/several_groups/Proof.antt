@@ -1,5 +1,4 @@
 -- `audit_book_fragment::several_groups` meets its contract.
--- Assumes nothing.
 use native.Mathlib.Omega.{arith}
 use Rattle.audit_book_fragment.proofs.Groups.{several-is}
 use Rattle.audit_book_fragment.proofs.several_groups.Statement.{statement}

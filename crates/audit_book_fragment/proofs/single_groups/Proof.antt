@@ -1,5 +1,4 @@
 -- `audit_book_fragment::single_groups` meets its contract.
--- Assumes nothing.
 use native.Mathlib.Omega.{arith}
 use Rattle.audit_book_fragment.proofs.Groups.{single-is}
 use Rattle.audit_book_fragment.proofs.single_groups.Statement.{statement}

@@ -1,5 +1,4 @@
 -- `audit_book_read::added_by` meets its contract.
--- Assumes nothing.
 use native.Mathlib.Omega.{arith}
 use borrow.Author.Needs.{needs}
 use Rattle.audit_book_read.proofs.Room.{added-is, one-single, no-single, several, not-several}

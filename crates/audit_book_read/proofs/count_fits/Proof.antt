@@ -1,5 +1,4 @@
 -- `audit_book_read::count_fits` meets its contract.
--- Assumes nothing.
 use native.Mathlib.Omega.{arith}
 use borrow.Author.Tests.{ltb-true, lt-ltb}
 use Rattle.audit_book_read.proofs.Counts.{count-raised, count-same}

@@ -1,5 +1,4 @@
 -- `audit_book_read::raise_ledger` meets its contract.
--- Assumes nothing.
 use native.Mathlib.Omega.{arith}
 use borrow.Author.Needs.{needs}
 use Rattle.audit_ledger.specs.Booking.{cell}

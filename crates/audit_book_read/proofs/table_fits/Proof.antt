@@ -1,5 +1,4 @@
 -- `audit_book_read::table_fits` meets its contract. The invariant: `CountsFit`, the counts passed have 64 bits.
--- Assumes nothing.
 use Prim.Native.Nat.{_-_}
 use native.Mathlib.Omega.{arith}
 use borrow.Author.Needs.{needs}

@@ -1,5 +1,4 @@
 -- `audit_book_read::totals_fit` meets its contract.
--- Assumes nothing.
 use Prim.Native.Nat.{_+_, _-_}
 use native.Mathlib.Omega.{arith}
 use borrow.Author.Needs.{needs}

@@ -1,5 +1,4 @@
 -- `audit_checks::check_opening` meets its contract, refusal by refusal.
--- Assumes nothing.
 use mathlib.Core.Path.{sym, ap, _∙_}
 use mathlib.Core.Bool.{_&&_}
 use mathlib.Core.Logic.{⊎-elim}

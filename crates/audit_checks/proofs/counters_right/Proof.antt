@@ -1,5 +1,4 @@
 -- `audit_checks::counters_right` meets its contract, length by length.
--- Assumes nothing.
 use native.Mathlib.Omega.{arith}
 use Rattle.audit_ledger.specs.Booking.{countersOf}
 use Rattle.audit_checks.proofs.Opening.{placements-other, singles-other, by-multi}

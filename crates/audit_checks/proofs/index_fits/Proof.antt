@@ -1,5 +1,4 @@
 -- `audit_checks::index_fits` meets its contract: not tested, or tested.
--- Assumes nothing.
 use borrow.Author.Tests.{not-true, not-false}
 use borrow.Author.Needs.{needs}
 use Rattle.audit_checks.proofs.index_fits.Statement.{statement}

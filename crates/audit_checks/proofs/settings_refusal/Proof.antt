@@ -1,5 +1,4 @@
 -- `audit_checks::settings_refusal` meets its contract, test by test.
--- Assumes nothing.
 use mathlib.Core.Path.{sym, _∙_}
 use native.Mathlib.Omega.{arith}
 use borrow.Author.Tests.{ltb-true, ltb-false, not-true, not-false}

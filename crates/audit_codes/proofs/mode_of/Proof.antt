@@ -1,5 +1,4 @@
 -- `audit_codes::mode_of` meets its contract: a number that is not 0 stands for pairs.
--- Assumes nothing.
 use native.Mathlib.Omega.{arith}
 use Rattle.audit_codes.proofs.Codes.{paired}
 use borrow.Author.Needs.{needs}

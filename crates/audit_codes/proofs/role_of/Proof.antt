@@ -1,5 +1,4 @@
 -- `audit_codes::role_of` meets its contract: a number that is neither 0 nor 1 stands for R2.
--- Assumes nothing.
 use native.Mathlib.Omega.{arith}
 use Rattle.audit_codes.proofs.Codes.{second}
 use borrow.Author.Needs.{needs}

@@ -1,5 +1,4 @@
 -- `audit_counters::count_runs` meets its contract. The invariant: `RunsCounted`, the runs that ended.
--- Assumes nothing.
 use mathlib.Core.Path.{sym, _∙_}
 use mathlib.Core.Logic.{⊎-elim}
 use Prim.Native.Nat.{_-_}

@@ -1,5 +1,4 @@
 -- `audit_counters::counts` meets its contract.
--- Assumes nothing.
 use borrow.Author.Needs.{needs}
 use Rattle.audit_counters.proofs.Choosing.{counts-last, counts-next}
 use Rattle.audit_counters.proofs.counts.Statement.{statement}

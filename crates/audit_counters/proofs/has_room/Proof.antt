@@ -1,5 +1,4 @@
 -- `audit_counters::has_room` meets its contract. The invariant: `RoomTo`, the targets passed have room.
--- Assumes nothing.
 use mathlib.Core.Path.{_∙_}
 use Prim.Native.Nat.{_*_, _-_}
 use native.Mathlib.Omega.{arith}

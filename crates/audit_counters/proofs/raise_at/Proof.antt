@@ -1,5 +1,4 @@
 -- `audit_counters::raise_at` meets its contract.
--- Assumes nothing.
 use Prim.Native.Nat.{_*_}
 use lib.ListN.{getD}
 use borrow.Author.Needs.{needs}

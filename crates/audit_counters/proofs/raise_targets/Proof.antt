@@ -1,5 +1,4 @@
 -- `audit_counters::raise_targets` meets its contract. The invariant: `RaisedSoFar`, the counters raised by the entries passed.
--- Assumes nothing.
 use Prim.Native.Nat.{_-_}
 use borrow.Author.Needs.{needs}
 use Rattle.audit_counters.proofs.Adding.{RaisedSoFar, raised-start, raised-one, raised-next, raised-end}

@@ -1,5 +1,4 @@
 -- `audit_counters::sums_fit` meets its contract. The invariant: `SumsFit`, the sums passed have 64 bits.
--- Assumes nothing.
 use Prim.Native.Nat.{_-_}
 use native.Mathlib.Omega.{arith}
 use borrow.Author.Needs.{needs}

@@ -1,5 +1,4 @@
 -- `audit_counters::targets_fit` meets its contract: room for all raises, or the raises counted.
--- Assumes nothing.
 use mathlib.Core.Path.{sym, _∙_}
 use native.Mathlib.Omega.{arith}
 use Rattle.audit_counters.specs.Targets.{targetsIn}

@@ -1,5 +1,4 @@
 -- `audit_counters::totals_fit` meets its contract.
--- Assumes nothing.
 use mathlib.Core.Path.{refl, _∙_}
 use mathlib.Core.List.{[]}
 use native.Mathlib.Omega.{arith}

@@ -1,5 +1,4 @@
 -- `audit_finish::finish_audit` meets its contract: the checks' refusal, or what is answered behind them.
--- Assumes nothing.
 use Rattle.audit_finish.proofs.Finishing.{finish-refused, finish-behind}
 use borrow.Author.Needs.{needs}
 use Rattle.audit_finish.proofs.finish_audit.Statement.{statement}

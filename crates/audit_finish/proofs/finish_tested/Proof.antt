@@ -1,5 +1,4 @@
 -- `audit_finish::finish_tested` meets its contract: 18 where the books do not agree, or the sheet of the state.
--- Assumes nothing.
 use mathlib.Core.Path.{refl}
 use native.Mathlib.Omega.{arith}
 use Rattle.audit_finish.proofs.Finishing.{tested-unbalanced, tested-done}

@@ -1,5 +1,4 @@
 -- `audit_fragment::audit_fragment` meets its contract: the opening's checks refuse, or the fragment is audited in the targets that they ranked.
--- Assumes nothing.
 use native.Mathlib.Omega.{arith}
 use Rattle.audit_ledger.specs.Booking.{countersOf}
 use Rattle.audit_model.specs.Calls.{heldOf, mateOf, fragmentOf}

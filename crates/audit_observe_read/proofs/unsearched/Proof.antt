@@ -1,5 +1,4 @@
 -- `audit_observe_read::unsearched` meets its contract.
--- Assumes nothing.
 use borrow.Author.Needs.{needs}
 use Rattle.audit_observe_read.proofs.unsearched.Statement.{statement}
 use Rattle.audit_observe_read.proofs.unsearched.Tie as tie

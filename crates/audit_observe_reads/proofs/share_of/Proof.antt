@@ -1,5 +1,4 @@
 -- `audit_observe_reads::share_of` meets its contract.
--- Assumes nothing.
 use native.Mathlib.Omega.{arith}
 use borrow.Author.Needs.{needs}
 use Rattle.audit_observe_reads.proofs.share_of.Statement.{statement}

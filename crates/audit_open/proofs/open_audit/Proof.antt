@@ -1,5 +1,4 @@
 -- `audit_open::open_audit` meets its contract: the checks' refusal, or a fresh state and counters of zero.
--- Assumes nothing.
 use mathlib.Core.Path.{refl}
 use Rattle.audit_ledger.specs.Booking.{countersOf}
 use Rattle.audit_model.specs.Calls.{indexIf}

@@ -1,5 +1,4 @@
 -- `audit_open::zero_numbers` meets its contract. The invariant: `Clearing`, the first numbers are zero.
--- Assumes nothing.
 use native.Mathlib.Omega.{arith}
 use borrow.Author.Needs.{needs}
 use Prim.Native.Nat.{_-_}

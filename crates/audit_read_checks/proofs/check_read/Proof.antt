@@ -1,5 +1,4 @@
 -- `audit_read_checks::check_read` meets its contract: its tests are those that are asked.
--- Assumes nothing.
 use mathlib.Core.Path.{refl}
 use Rattle.bases.specs.Read.{readOf}
 use Rattle.audit_read_checks.proofs.Checked.{checked, judged}

@@ -1,5 +1,4 @@
 -- `audit_read_checks::check_reads` meets its contract: the first answer that refuses stands.
--- Assumes nothing.
 use Rattle.bases.specs.Read.{readOf}
 use Rattle.audit_model.specs.Observing.{mateRefusal, isSearched}
 use Rattle.audit_read_checks.proofs.Checked.{first-refused, single-passed, second-refused, pair-passed, refused-by, passed-by}

@@ -1,5 +1,4 @@
 -- `audit_roles::in_order` meets its contract, with and without a last ordinal.
--- Assumes nothing.
 use mathlib.Core.Path.{refl}
 use borrow.Author.Needs.{needs}
 use Rattle.audit_roles.proofs.in_order.Statement.{statement}

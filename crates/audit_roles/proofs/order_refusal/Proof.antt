@@ -1,5 +1,4 @@
 -- `audit_roles::order_refusal` meets its contract: 12, 13, or neither.
--- Assumes nothing.
 use Rattle.audit_model.specs.Settings.{roleNumber}
 use mathlib.Core.Path.{sym, _∙_}
 use native.Mathlib.Omega.{arith}

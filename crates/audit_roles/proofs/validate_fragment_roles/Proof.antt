@@ -1,5 +1,4 @@
 -- `audit_roles::validate_fragment_roles` meets its contract, mode by mode.
--- Assumes nothing.
 use Rattle.audit_model.specs.Settings.{roleNumber}
 use native.Mathlib.Omega.{arith}
 use Rattle.audit_roles.proofs.Roles.{not-one, one-read, not-two, not-first, two-reads}

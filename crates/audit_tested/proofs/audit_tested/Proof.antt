@@ -1,5 +1,4 @@
 -- `audit_tested::audit_tested` meets its contract: what was observed stands, and is booked where it is not refused.
--- Assumes nothing.
 use mathlib.Core.Path.{refl, sym}
 use mathlib.Core.List.{[]}
 use native.Mathlib.Omega.{arith}

@@ -1,5 +1,4 @@
 -- `audit_unitigs::apply_to_unitigs` meets its contract.
--- Assumes nothing.
 use borrow.Author.Needs.{needs}
 use native.Mathlib.Omega.{arith}
 use Rattle.catalogue.specs.Catalogue.{Catalogue}

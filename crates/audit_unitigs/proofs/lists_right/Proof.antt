@@ -1,5 +1,4 @@
 -- `audit_unitigs::lists_right` meets its contract.
--- Assumes nothing.
 use native.Mathlib.Omega.{arith}
 use lib.ListN.{length}
 use Rattle.audit_unitigs.proofs.Comparing.{other-placements, other-singles, other-multi, no-rows, rows-counted}

@@ -1,5 +1,4 @@
 -- `audit_unitigs::same_at` meets its contract.
--- Assumes nothing.
 use borrow.Author.Needs.{needs}
 use native.Mathlib.Omega.{arith}
 use lib.ListN.{getD}

@@ -1,5 +1,4 @@
 -- `audit_unitigs::same_targets` meets its contract. The invariant: `Alike`, the answer for the places from i on is the answer for all.
--- Assumes nothing.
 use borrow.Author.Needs.{needs}
 use native.Mathlib.Omega.{arith}
 use Prim.Native.Nat.{_-_}

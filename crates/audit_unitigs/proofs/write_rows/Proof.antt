@@ -1,5 +1,4 @@
 -- `audit_unitigs::write_rows` meets its contract. The invariant: `Written`, the rows of the first i targets are written.
--- Assumes nothing.
 use borrow.Author.Needs.{needs}
 use native.Mathlib.Omega.{arith}
 use Prim.Native.Nat.{_-_}

@@ -1,5 +1,4 @@
 -- `audit_unitigs::write_shown` meets its contract.
--- Assumes nothing.
 use borrow.Author.Needs.{needs}
 use Rattle.audit_unitigs.proofs.Writing.{row-without, row-with}
 use Rattle.audit_unitigs.proofs.write_shown.Statement.{statement}

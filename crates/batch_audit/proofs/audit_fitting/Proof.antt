@@ -1,5 +1,4 @@
 -- `batch_audit::audit_fitting` meets its contract: lists that do not fit are refused, and others gone through.
--- Assumes nothing.
 use native.Mathlib.Omega.{arith}
 use mathlib.Core.Path.{sym, _∙_}
 use borrow.Author.Tests.{not-true, not-false}

@@ -1,5 +1,4 @@
 -- `batch_audit::audit_fragments` meets its contract: the opening's checks refuse, or the list is audited in the targets that they ranked.
--- Assumes nothing.
 use native.Mathlib.Omega.{arith}
 use Rattle.audit_ledger.specs.Booking.{countersOf}
 use Rattle.audit_model.specs.Calls.{heldOf}

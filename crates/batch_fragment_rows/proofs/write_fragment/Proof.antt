@@ -1,5 +1,4 @@
 -- `batch_fragment_rows::write_fragment` meets its contract: the rows of each answer.
--- Assumes nothing.
 use native.Mathlib.Omega.{arith}
 use Prim.Native.Nat.{_*_}
 use Rattle.audit_model.specs.Calls.{mappingRow}

@@ -1,5 +1,4 @@
 -- `batch_fragment_rows::write_refusals` meets its contract. The invariant: `Refusing`, the rows that are written.
--- Assumes nothing.
 use native.Mathlib.Omega.{arith}
 use Prim.Native.Nat.{_-_}
 use borrow.Author.Needs.{needs}

@@ -1,5 +1,4 @@
 -- `batch_fragments::audit_list` meets its contract: fragment by fragment.
--- Assumes nothing.
 use native.Mathlib.Omega.{arith}
 use Prim.Native.Nat.{_-_}
 use lib.ListN.{length}

@@ -1,5 +1,4 @@
 -- `batch_fragments::audit_listed` meets its contract: two reads stand for all, and the part of the entries comes back in its place.
--- Assumes nothing.
 use native.Mathlib.Omega.{arith}
 use Prim.Native.Nat.{_+_}
 use lib.ListN.{length}

@@ -1,5 +1,4 @@
 -- `batch_lists::byte_or_zero` meets its contract.
--- Assumes nothing.
 use native.Mathlib.Omega.{arith}
 use mathlib.Core.Path.{sym}
 use lib.ListN.{List·getD-eq-default}

@@ -1,5 +1,4 @@
 -- `batch_lists::lengths_fit` meets its contract.
--- Assumes nothing.
 use native.Mathlib.Omega.{arith}
 use Rattle.batch_lists.proofs.Fitting.{other-bases, other-marks, other-qualities, broken-rows, rows-counted}
 use Rattle.batch_lists.proofs.lengths_fit.Statement.{statement}

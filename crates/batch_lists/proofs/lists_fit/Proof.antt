@@ -1,5 +1,4 @@
 -- `batch_lists::lists_fit` meets its contract: test by test.
--- Assumes nothing.
 use native.Mathlib.Omega.{arith}
 use mathlib.Core.Path.{sym, _∙_}
 use borrow.Author.Needs.{needs}

@@ -1,5 +1,4 @@
 -- `batch_lists::sequence_or_none` meets its contract.
--- Assumes nothing.
 use native.Mathlib.Omega.{arith}
 use borrow.Author.Needs.{needs}
 use Rattle.batch_lists.proofs.Fitting.{none-behind}

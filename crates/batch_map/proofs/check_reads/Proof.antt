@@ -1,5 +1,4 @@
 -- `batch_map::check_reads` meets its contract: one test after the other.
--- Assumes nothing.
 use mathlib.Core.Path.{sym, _∙_}
 use borrow.Author.Tests.{not-true, not-false}
 use Rattle.batch_map.proofs.Listing.{limit-out, ends-wrong, rows-broken, rows-other, list-right}

@@ -1,5 +1,4 @@
 -- `batch_map::map_ranked_reads` meets its contract: refusals 6, 9 and 25, or all reads mapped.
--- Assumes nothing.
 use mathlib.Core.Path.{sym, _∙_}
 use lib.ListN.{length}
 use borrow.Author.Tests.{not-true, not-false}

@@ -1,5 +1,4 @@
 -- `batch_map::map_reads` meets its contract: the ranking's refusal, or the answer for the ranked sequences.
--- Assumes nothing.
 use native.Mathlib.Omega.{arith}
 use Rattle.index_plan.proofs.Planning.{within-buffer, prefix-length, lent, seed-length}
 use Rattle.batch_map.proofs.Listing.{reads-refused, reads-done}

@@ -1,5 +1,4 @@
 -- `batch_map::share_of` meets its contract: a division, where there are reads.
--- Assumes nothing.
 use mathlib.Core.Path.{refl}
 use native.Mathlib.Nat.{div-mul-le-self, div-le-self}
 use borrow.Author.Needs.{needs}

@@ -1,5 +1,4 @@
 -- `batch_reads::map_share` meets its contract: the refusal of the read or the limit, or the search into its share.
--- Assumes nothing.
 use mathlib.Core.Path.{sym, _∙_}
 use Rattle.index_model.specs.Index.{rankedSequences}
 use Rattle.indexed_mapper.proofs.Mapping.{searchable}

@@ -1,5 +1,4 @@
 -- `batch_reads::map_shares` meets its contract. The invariant: `RankedShares`, the reads that have their rows and shares.
--- Assumes nothing.
 use mathlib.Core.Path.{sym, subst}
 use native.Mathlib.Omega.{arith}
 use Prim.Native.Nat.{_-_}

@@ -1,5 +1,4 @@
 -- `batch_rows::write_mapped` meets its contract: the row of a mapped read.
--- Assumes nothing.
 use Rattle.batch_rows.proofs.Writing.{eight-put}
 use borrow.Author.Needs.{needs}
 use Rattle.batch_rows.proofs.write_mapped.Statement.{statement}

@@ -1,5 +1,4 @@
 -- `batch_rows::write_row` meets its contract: the row of each answer.
--- Assumes nothing.
 use borrow.Author.Needs.{needs}
 use Rattle.batch_rows.proofs.write_row.Statement.{statement}
 use Rattle.batch_rows.proofs.write_row.Tie as tie

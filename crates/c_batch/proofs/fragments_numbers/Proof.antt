@@ -1,5 +1,4 @@
 -- `c_batch::fragments_numbers` meets its contract: 26, or the call behind it.
--- Assumes nothing.
 use mathlib.Core.Path.{sym, _∙_}
 use borrow.Author.Tests.{not-true, not-false}
 use Rattle.audit_ledger.specs.Booking.{countersOf}

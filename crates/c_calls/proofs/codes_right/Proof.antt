@@ -1,5 +1,4 @@
 -- `c_calls::codes_right` meets its contract.
--- Assumes nothing.
 use native.Mathlib.Omega.{arith}
 use Rattle.c_calls.proofs.Telling.{no-role, by-mark}
 use Rattle.c_calls.proofs.codes_right.Statement.{statement}

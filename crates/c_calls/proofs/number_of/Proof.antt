@@ -1,5 +1,4 @@
 -- `c_calls::number_of` meets its contract.
--- Assumes nothing.
 use native.Mathlib.Omega.{arith}
 use borrow.Author.Needs.{needs}
 use Rattle.c_calls.proofs.Telling.{accepted-number}

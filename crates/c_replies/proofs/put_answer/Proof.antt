@@ -1,5 +1,4 @@
 -- `c_replies::put_answer` meets its contract: the row is written, and its first number is returned.
--- Assumes nothing.
 use mathlib.Core.Path.{ap, _∙_}
 use lib.ListN.{getD}
 use borrow.Author.Needs.{needs}

@@ -1,5 +1,4 @@
 -- `c_replies::put_built` meets its contract: the refusal and zero, or zero and the count.
--- Assumes nothing.
 use mathlib.Core.Path.{refl}
 use Rattle.c_replies.proofs.Writing.{put-2}
 use borrow.Author.Needs.{needs}

@@ -1,5 +1,4 @@
 -- `c_replies::put_plan` meets its contract: the refusal and two zeros, or zero and the two counts.
--- Assumes nothing.
 use mathlib.Core.Path.{refl}
 use native.Mathlib.Omega.{arith}
 use lib.ListN.{length-set}

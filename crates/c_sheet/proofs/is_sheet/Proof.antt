@@ -1,5 +1,4 @@
 -- `c_sheet::is_sheet` meets its contract: one test after the other.
--- Assumes nothing.
 use mathlib.Core.Path.{sym, _∙_}
 use native.Mathlib.Omega.{arith}
 use borrow.Author.Tests.{not-true, not-false}

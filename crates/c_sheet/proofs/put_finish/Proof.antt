@@ -1,5 +1,4 @@
 -- `c_sheet::put_finish` meets its contract: the refusal and zeros, or zero and the sheet.
--- Assumes nothing.
 use mathlib.Core.Path.{_≡_}
 use native.Mathlib.Omega.{arith}
 use lib.ListN.{length, length-set}

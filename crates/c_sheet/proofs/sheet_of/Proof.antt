@@ -1,5 +1,4 @@
 -- `c_sheet::sheet_of` meets its contract.
--- Assumes nothing.
 use mathlib.Core.Path.{refl}
 use lib.ListN.{getD}
 use native.Mathlib.Omega.{arith}

@@ -1,5 +1,4 @@
 -- `c_sheet::status_fits` meets its contract.
--- Assumes nothing.
 use native.Mathlib.Omega.{arith}
 use borrow.Author.Tests.{eq-eqb, ne-eqb}
 use Rattle.c_sheet.proofs.status_fits.Statement.{statement}

@@ -1,5 +1,4 @@
 -- `c_sheet::status_of` meets its contract.
--- Assumes nothing.
 use native.Mathlib.Omega.{arith}
 use Rattle.c_sheet.proofs.Writing.{unsupported}
 use borrow.Author.Needs.{needs}

@@ -1,5 +1,4 @@
 -- `c_state::copy_numbers` meets its contract. The loop's invariant: the numbers passed stand in the buffer.
--- Assumes nothing.
 use Prim.Native.Nat.{_-_}
 use native.Mathlib.Omega.{arith}
 use Rattle.c_state.proofs.Copying.{Copied, copied-none, copied-more, copied-all}

@@ -1,5 +1,4 @@
 -- `c_state::eighteen` meets its contract.
--- Assumes nothing.
 use mathlib.Core.Path.{refl}
 use Prim.Native.Nat.{_+_, _-_}
 use native.Mathlib.Omega.{arith}

@@ -1,5 +1,4 @@
 -- `c_state::is_state` meets its contract: one test after the other.
--- Assumes nothing.
 use mathlib.Core.Logic.{⊎-elim}
 use native.Mathlib.Omega.{arith}
 use Rattle.c_state.proofs.Testing.{wrong-length, wrong-layout, wrong-mode, wrong-remap, wrong-floor, wrong-flag, wrong-ordinal, with-last, without-last}

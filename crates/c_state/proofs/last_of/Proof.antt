@@ -1,5 +1,4 @@
 -- `c_state::last_of` meets its contract: an ordinal where the flag is not 0.
--- Assumes nothing.
 use native.Mathlib.Omega.{arith}
 use Rattle.c_state.proofs.Writing.{accepted-last}
 use borrow.Author.Needs.{needs}

@@ -1,5 +1,4 @@
 -- `c_state::ledger_of` meets its contract.
--- Assumes nothing.
 use mathlib.Core.Path.{refl}
 use native.Mathlib.Omega.{arith}
 use Rattle.c_state.proofs.Testing.{state-parts}

@@ -1,5 +1,4 @@
 -- `c_state::put_last` meets its contract.
--- Assumes nothing.
 use native.Mathlib.Omega.{arith}
 use lib.ListN.{length-set}
 use Rattle.c_state.proofs.Writing.{put-absent, put-accepted}

@@ -1,5 +1,4 @@
 -- `c_state::put_ledger` meets its contract.
--- Assumes nothing.
 use Rattle.c_state.proofs.Writing.{put-ledger}
 use native.Mathlib.Omega.{arith}
 use lib.ListN.{length, length-set}

@@ -1,5 +1,4 @@
 -- `catch_advance::refuse` meets its contract: the line of the refusal is written, and the run has ended.
--- Assumes nothing.
 use mathlib.Core.Path.{refl}
 use borrow.Author.Needs.{needs}
 use Rattle.catch_advance.proofs.refuse.Statement.{statement}

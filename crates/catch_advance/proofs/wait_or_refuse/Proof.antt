@@ -1,5 +1,4 @@
 -- `catch_advance::wait_or_refuse` meets its contract: 20 at the end of the stream, else nothing.
--- Assumes nothing.
 use Rattle.catch_advance.proofs.Advancing.{stays-ended, stays-open}
 use borrow.Author.Needs.{needs}
 use Rattle.catch_advance.proofs.wait_or_refuse.Statement.{statement}

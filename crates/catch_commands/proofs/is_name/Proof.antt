@@ -1,5 +1,4 @@
 -- `catch_commands::is_name` meets its contract. The loop's invariant: the answer for the bytes from `i` on is the answer for all.
--- Assumes nothing.
 use Prim.Native.Nat.{_-_}
 use native.Mathlib.Omega.{arith}
 use lib.ListN.{length}

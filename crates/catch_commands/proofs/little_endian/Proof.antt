@@ -1,5 +1,4 @@
 -- `catch_commands::little_endian` meets its contract. The loop's invariant: the number is that of the bytes from `i` on, and fits them.
--- Assumes nothing.
 use Prim.Native.Nat.{_+_, _-_}
 use native.Mathlib.Omega.{arith}
 use mir.Facts.{fits-8-64}

@@ -1,5 +1,4 @@
 -- `catch_commands::read_settings` meets its contract: eleven bytes with two marks, whatever follows them.
--- Assumes nothing.
 use native.Mathlib.Omega.{arith}
 use lib.ListN.{getD}
 use Rattle.catch_commands.proofs.Settings.{settings-short, no-mode, no-remap, settings-read}

@@ -1,5 +1,4 @@
 -- `catch_commands::read_target` meets its contract: the head is judged first, then there are enough bytes, then the identifier.
--- Assumes nothing.
 use mathlib.Core.Path.{_≡_, refl, sym, _∙_}
 use mathlib.Core.Bool.{true, false}
 use Prim.Native.Nat.{ℕ, _+_, _-_, _<_, _≤_}

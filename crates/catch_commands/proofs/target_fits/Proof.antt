@@ -1,5 +1,4 @@
 -- `catch_commands::target_fits` meets its contract: the first test that fails, or whether the bases are within what is left.
--- Assumes nothing.
 use Prim.Native.Nat.{_+_}
 use native.Mathlib.Omega.{arith}
 use borrow.Author.Tests.{le-leb, lt-leb, lt-ltb, le-ltb}

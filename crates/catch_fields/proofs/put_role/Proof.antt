@@ -1,5 +1,4 @@
 -- `catch_fields::put_role` meets its contract.
--- Assumes nothing.
 use native.Mathlib.Omega.{arith}
 use borrow.Author.Needs.{needs}
 use Rattle.catch_fields.proofs.put_role.Statement.{statement}

@@ -1,5 +1,4 @@
 -- `catch_finish_lines::put_finish` meets its contract, answer by answer.
--- Assumes nothing.
 use mathlib.Core.Path.{refl}
 use native.Mathlib.Omega.{arith}
 use Rattle.lists.specs.Cut.{cut}

@@ -1,5 +1,4 @@
 -- `catch_fragment::tell_fragment` meets its contract: the fragment is audited, and the lines of its answer are written.
--- Assumes nothing.
 use native.Mathlib.Omega.{arith}
 use Rattle.audit_model.specs.Calls.{heldOf}
 use Rattle.audit_observe_reads.proofs.Fragment.{known-within}

@@ -1,5 +1,4 @@
 -- `catch_fragment_lines::put_answer` meets its contract, answer by answer.
--- Assumes nothing.
 use native.Mathlib.Omega.{arith}
 use Rattle.lists.specs.Cut.{cut}
 use Rattle.audit_model.specs.Settings.{roleNumber}

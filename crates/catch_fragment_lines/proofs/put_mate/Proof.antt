@@ -1,5 +1,4 @@
 -- `catch_fragment_lines::put_mate` meets its contract: R, and G behind it.
--- Assumes nothing.
 use native.Mathlib.Omega.{arith}
 use Rattle.catch_fragment_lines.proofs.Answering.{two-added, fewer-lent}
 use borrow.Author.Needs.{needs}

@@ -1,5 +1,4 @@
 -- `catch_fragments::quality_count` meets its contract: as many as bases where the mark is 1.
--- Assumes nothing.
 use native.Mathlib.Omega.{arith}
 use borrow.Author.Tests.{eq-eqb, ne-eqb}
 use Rattle.catch_fragments.proofs.quality_count.Statement.{statement}

@@ -1,5 +1,4 @@
 -- `catch_fragments::read_fits` meets its contract: the first test that fails, or whether the length is at most 4,096.
--- Assumes nothing.
 use native.Mathlib.Omega.{arith}
 use borrow.Author.Tests.{le-leb, lt-leb}
 use Rattle.catch_fragments.proofs.read_fits.Statement.{statement}

@@ -1,5 +1,4 @@
 -- `catch_fragments::read_fragment` meets its contract: the count is judged, then there are as many reads.
--- Assumes nothing.
 use mathlib.Core.Path.{refl}
 use native.Mathlib.Omega.{arith}
 use lib.ListN.{getD}

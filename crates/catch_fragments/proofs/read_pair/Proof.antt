@@ -1,5 +1,4 @@
 -- `catch_fragments::read_pair` meets its contract: the second read's answer, behind the first.
--- Assumes nothing.
 use mathlib.Core.Path.{refl}
 use Rattle.catch_fragments.proofs.Fragments.{told-as}
 use borrow.Author.Needs.{needs}

@@ -1,5 +1,4 @@
 -- `catch_fragments::read_read` meets its contract: the code, then the head is judged, then there are enough bytes.
--- Assumes nothing.
 use mathlib.Core.Path.{_≡_, refl, sym, _∙_}
 use mathlib.Core.Bool.{true}
 use Prim.Native.Nat.{ℕ, _+_, _-_, _≤_}

@@ -1,5 +1,4 @@
 -- `catch_fragments::read_reads` meets its contract: the first read's answer, and behind it the second's where there are two.
--- Assumes nothing.
 use native.Mathlib.Omega.{arith}
 use Rattle.catch_fragments.proofs.Fragments.{told-as, reads-refused, reads-short, first-within, one-found, pair-told}
 use borrow.Author.Needs.{needs}

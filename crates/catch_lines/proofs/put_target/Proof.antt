@@ -1,5 +1,4 @@
 -- `catch_lines::put_target` meets its contract.
--- Assumes nothing.
 use mathlib.Core.Path.{refl}
 use mathlib.Core.List.{[], _∷_, _++_}
 use lib.ListN.{length}

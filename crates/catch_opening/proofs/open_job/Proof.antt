@@ -1,5 +1,4 @@
 -- `catch_opening::open_job` meets its contract: the opening's checks refuse, or the index of the ranked targets is built.
--- Assumes nothing.
 use native.Mathlib.Omega.{arith}
 use Rattle.audit_ledger.specs.Booking.{countersOf}
 use Rattle.catch_opening.proofs.Opening.{job-refused, job-within, job-prefix, job-lent, job-room, job-opened}

@@ -1,5 +1,4 @@
 -- `catch_run::progress_of` meets its contract, answer by answer.
--- Assumes nothing.
 use mathlib.Core.Path.{sym, ap}
 use Rattle.catch_run.specs.Running.{progressOf}
 use borrow.Author.Needs.{needs}

@@ -1,5 +1,4 @@
 -- `catch_run::run` meets its contract: a fragment at 03, the end at 05, and 20 at another code or with bytes behind the end.
--- Assumes nothing.
 use mathlib.Core.Path.{refl}
 use native.Mathlib.Omega.{arith}
 use Rattle.audit_model.specs.Calls.{heldOf}

@@ -1,5 +1,4 @@
 -- `catch_run::run_fragment` meets its contract: refused, or more is needed, or a fragment is audited and its lines are written.
--- Assumes nothing.
 use mathlib.Core.Path.{refl}
 use native.Mathlib.Omega.{arith}
 use Rattle.audit_model.specs.Calls.{heldOf}

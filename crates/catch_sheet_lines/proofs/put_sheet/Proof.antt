@@ -1,5 +1,4 @@
 -- `catch_sheet_lines::put_sheet` meets its contract.
--- Assumes nothing.
 use borrow.Author.Needs.{needs}
 use Rattle.catch_sheet_lines.proofs.Listing.{three-added}
 use Rattle.catch_sheet_lines.proofs.put_sheet.Statement.{statement}

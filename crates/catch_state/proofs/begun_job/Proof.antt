@@ -1,5 +1,4 @@
 -- `catch_state::begun_job` meets its contract, answer by answer.
--- Assumes nothing.
 use mathlib.Core.Path.{sym, ap, _∙_}
 use Rattle.audit_model.specs.declared.settings.AuditState.{AuditState}
 use Rattle.catch_supply.specs.Supplying.{went}

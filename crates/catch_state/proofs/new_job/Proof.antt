@@ -1,5 +1,4 @@
 -- `catch_state::new_job` meets its contract.
--- Assumes nothing.
 use mathlib.Core.Path.{ap}
 use Rattle.audit_model.specs.declared.settings.AuditState.{AuditState}
 use Rattle.catch_state.specs.declared.JobStage.the-variants as stages

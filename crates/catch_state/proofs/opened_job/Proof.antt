@@ -1,5 +1,4 @@
 -- `catch_state::opened_job` meets its contract, answer by answer.
--- Assumes nothing.
 use mathlib.Core.Path.{sym, ap}
 use Rattle.catch_state.specs.Jobs.{openedJob}
 use borrow.Author.Needs.{needs}

@@ -1,5 +1,4 @@
 -- `catch_step::advance` meets its contract, stage by stage.
--- Assumes nothing.
 use mathlib.Core.Path.{sym}
 use mathlib.Core.List.{[]}
 use native.Mathlib.Omega.{arith}

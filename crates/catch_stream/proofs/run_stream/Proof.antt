@@ -1,5 +1,4 @@
 -- `catch_stream::run_stream` is safe and ends. The invariant: the job is kept, and a step has room; the measure counts turns.
--- Assumes nothing.
 use mathlib.Core.Path.{sym, subst}
 use native.Mathlib.Omega.{arith}
 use borrow.Author.Needs.{needs}

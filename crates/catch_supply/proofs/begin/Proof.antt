@@ -1,5 +1,4 @@
 -- `catch_supply::begin` meets its contract: another code is refused, else the step is as the settings are read.
--- Assumes nothing.
 use native.Mathlib.Omega.{arith}
 use Rattle.catch_supply.proofs.Supplying.{begin-elsewhere, begin-reads, begin-refuses, begin-stays}
 use borrow.Author.Needs.{needs}

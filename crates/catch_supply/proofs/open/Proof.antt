@@ -1,5 +1,4 @@
 -- `catch_supply::open` meets its contract: another code is refused, else the step is as the job is opened.
--- Assumes nothing.
 use mathlib.Core.Logic.{⊎-elim}
 use native.Mathlib.Omega.{arith}
 use borrow.Author.Tests.{eqb-true, eqb-false, not-true, not-false}

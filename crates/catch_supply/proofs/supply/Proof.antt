@@ -1,5 +1,4 @@
 -- `catch_supply::supply` meets its contract: the step is as the target is read, and one that is read is stored behind the others.
--- Assumes nothing.
 use mathlib.Core.List.{[]}
 use Prim.Native.Nat.{_+_, _-_}
 use native.Mathlib.Omega.{arith}

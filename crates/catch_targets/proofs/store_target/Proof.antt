@@ -1,5 +1,4 @@
 -- `catch_targets::store_target` meets its contract: bytes behind those of the others, and their ends.
--- Assumes nothing.
 use Rattle.catch_targets.proofs.Storing.{stored, counted}
 use borrow.Author.Needs.{needs}
 use Rattle.catch_targets.proofs.store_target.Statement.{statement}

@@ -1,5 +1,4 @@
 -- `catch_text::put_decimal` meets its contract. The digits of the tenth stand before the last; the tenth is less than the number.
--- Assumes nothing.
 use Prim.Native.Nat.{ℕ, _<_}
 use native.Mathlib.Omega.{arith}
 use borrow.Author.Needs.{needs}

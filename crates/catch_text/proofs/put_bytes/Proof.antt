@@ -1,5 +1,4 @@
 -- `catch_text::put_bytes` meets its contract. The loop's invariant: the bytes passed stand behind those of the output.
--- Assumes nothing.
 use Prim.Native.Nat.{_-_}
 use mathlib.Core.Path.{_≡_}
 use native.Mathlib.Omega.{arith}

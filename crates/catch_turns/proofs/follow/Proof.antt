@@ -1,5 +1,4 @@
 -- `catch_turns::follow` meets its contract, answer by answer: no step goes further than what is at hand, and what it left is there behind it.
--- Assumes nothing.
 use mathlib.Core.Path.{refl, sym}
 use Prim.Native.Nat.{_+_, _≤_}
 use native.Mathlib.Omega.{arith}

@@ -1,5 +1,4 @@
 -- `catch_turns::refill` meets its contract: what is read is put behind the bytes that are kept.
--- Assumes nothing.
 use Prim.Native.Nat.{_+_, _-_}
 use native.Mathlib.Omega.{arith}
 use borrow.Author.Needs.{needs}

@@ -1,5 +1,4 @@
 -- `catch_turns::shift` meets its contract. The invariant: so many bytes are at the front, and behind them nothing has changed.
--- Assumes nothing.
 use mathlib.Core.Path.{refl}
 use Prim.Native.Nat.{_-_}
 use native.Mathlib.Omega.{arith}

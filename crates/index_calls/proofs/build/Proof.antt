@@ -1,5 +1,4 @@
 -- `index_calls::build` meets its contract: the ranking's refusal, or the build of the ranked sequences.
--- Assumes nothing.
 use native.Mathlib.Omega.{arith}
 use Rattle.index_plan.proofs.Planning.{within-buffer, prefix-length, lent, seed-length}
 use Rattle.index_calls.proofs.Building.{build-refused, build-done}

@@ -1,5 +1,4 @@
 -- `index_calls::build_ranked` meets its contract: refusal 5 before anything is written, or room in every column.
--- Assumes nothing.
 use native.Mathlib.Omega.{arith}
 use Rattle.index_calls.proofs.Building.{no-room, with-room}
 use borrow.Author.Needs.{needs}

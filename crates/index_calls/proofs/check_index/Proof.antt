@@ -1,5 +1,4 @@
 -- `index_calls::check_index` meets its contract: the ranking's refusal, or the test of the ranked sequences.
--- Assumes nothing.
 use native.Mathlib.Omega.{arith}
 use mathlib.Core.Path.{sym, _∙_}
 use mathlib.Core.Bool.{true, false}

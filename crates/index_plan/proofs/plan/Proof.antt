@@ -1,5 +1,4 @@
 -- `index_plan::plan` meets its contract: the ranking's refusal, or the two counts.
--- Assumes nothing.
 use native.Mathlib.Omega.{arith}
 use mathlib.Core.Path.{_∙_}
 use Rattle.index_plan.proofs.Planning.{within-buffer, prefix-length, lent, seed-length, plan-refused, plan-done}

@@ -1,5 +1,4 @@
 -- `index_plan::rank_checked` meets its contract: the test of the seed length, and then the ranking.
--- Assumes nothing.
 use mathlib.Core.Path.{sym, _∙_}
 use borrow.Author.Tests.{not-true, not-false}
 use Rattle.index_plan.proofs.Planning.{seed-wrong, seed-fits}

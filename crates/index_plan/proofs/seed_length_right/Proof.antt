@@ -1,5 +1,4 @@
 -- `index_plan::seed_length_right` meets its contract, by the two bounds.
--- Assumes nothing.
 use mathlib.Core.Path.{refl}
 use native.Mathlib.Omega.{arith}
 use borrow.Author.Tests.{lt-leb, le-leb}

@@ -1,5 +1,4 @@
 -- `map_answers::conclude` meets its contract, by whether more matches than the bound were seen.
--- Assumes nothing.
 use native.Mathlib.Omega.{arith}
 use Rattle.map_answers.proofs.Concluding.{conclude-few, conclude-short, conclude-past}
 use borrow.Author.Needs.{needs}

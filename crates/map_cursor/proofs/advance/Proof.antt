@@ -1,5 +1,4 @@
 -- `map_cursor::advance` meets its contract: a walk of its MIR, by hand. Both borrows are opened, the cursor is copied and moved on by `next_candidate`, `counted` puts the moved cursor and the counts together, these are stored, and both borrows are closed.
--- Assumes nothing.
 use mathlib.Core.Path.{_≡_, refl, ap, subst}
 use Prim.Native.Nat.{ℕ, _-_, _<_, _≤_, _^_}
 use mathlib.Core.List.{[], _∷_, List}

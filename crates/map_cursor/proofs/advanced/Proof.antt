@@ -1,5 +1,4 @@
 -- `map_cursor::advanced` meets its contract: a walk of its MIR, by hand. Both records are lent to `advance` for lifetimes of the call, taken back at their last values, and put together with the candidate.
--- Assumes nothing.
 use mathlib.Core.Path.{_≡_, refl, ap, subst}
 use Prim.Native.Nat.{ℕ, _-_, _<_, _≤_, _^_}
 use mathlib.Core.List.{[], _∷_, List}

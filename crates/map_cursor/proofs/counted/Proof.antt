@@ -1,5 +1,4 @@
 -- `map_cursor::counted` meets its contract: the moved cursor, the raised count and the candidate.
--- Assumes nothing.
 use borrow.Author.Needs.{needs}
 use Rattle.map_cursor.proofs.counted.Statement.{statement}
 use Rattle.map_cursor.proofs.counted.Tie as tie

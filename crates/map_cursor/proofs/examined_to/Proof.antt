@@ -1,5 +1,4 @@
 -- `map_cursor::examined_to` meets its contract: the one count that is raised.
--- Assumes nothing.
 use borrow.Author.Needs.{needs}
 use Rattle.map_cursor.proofs.examined_to.Statement.{statement}
 use Rattle.map_cursor.proofs.examined_to.Tie as tie

@@ -1,5 +1,4 @@
 -- `map_cursor::raised_by` meets its contract: the sum, or the largest count.
--- Assumes nothing.
 use native.Mathlib.Omega.{arith}
 use Rattle.map_cursor.proofs.raised_by.Statement.{statement}
 use Rattle.map_cursor.proofs.raised_by.Tie as tie

@@ -1,5 +1,4 @@
 -- `map_places::stands_at` meets its contract. The invariant: the bases before i agree.
--- Assumes nothing.
 use mathlib.Core.Path.{_≡_, refl, sym, _∙_}
 use mathlib.Core.Bool.{true}
 use Prim.Native.Nat.{_+_, _-_, _≤_}

@@ -1,5 +1,4 @@
 -- `map_places::stretch_agrees` meets its contract. The invariant: agree says whether the bases before i do.
--- Assumes nothing.
 use mathlib.Core.Path.{_≡_, sym, ap, ap₂, _∙_}
 use mathlib.Core.Bool.{_&&_}
 use Prim.Native.Nat.{_-_, _≤_}

@@ -1,5 +1,4 @@
 -- `map_rarest_seed::rarest_seed` meets its contract: offset by offset, those passed over that have no fewer postings.
--- Assumes nothing.
 use native.Mathlib.Omega.{arith}
 use Prim.Native.Nat.{_+_, _-_}
 use lib.ListN.{length}

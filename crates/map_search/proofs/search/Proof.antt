@@ -1,5 +1,4 @@
 -- `map_search::search` meets its contract: a short read at every start, else by the index under the lesser of limit and entries.
--- Assumes nothing.
 use native.Mathlib.Omega.{arith}
 use Rattle.index_model.specs.Index.{rankedSequences}
 use Rattle.map_by_index.specs.Work.{byIndex}

@@ -1,5 +1,4 @@
 -- `map_search::search_every_start` meets its contract: a search of every place under the lesser of limit and entries.
--- Assumes nothing.
 use Rattle.index_model.specs.Index.{rankedSequences}
 use Rattle.map_by_index.specs.Work.{plain}
 use Rattle.map_search.proofs.Searching.{search-answered, scan-bounded, scan-found}

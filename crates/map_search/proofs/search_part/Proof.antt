@@ -1,5 +1,4 @@
 -- `map_search::search_part` meets its contract: the lent part comes back at its place.
--- Assumes nothing.
 use Prim.Native.Nat.{_+_, _-_}
 use native.Mathlib.Omega.{arith}
 use Rattle.index_model.specs.Index.{rankedSequences}

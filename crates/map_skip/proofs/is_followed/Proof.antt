@@ -1,5 +1,4 @@
 -- `map_skip::is_followed` meets its contract: five tests, of which each may fail.
--- Assumes nothing.
 use mathlib.Core.Path.{refl, sym, ap, _∙_}
 use native.Mathlib.Omega.{arith}
 use borrow.Author.Needs.{needs}

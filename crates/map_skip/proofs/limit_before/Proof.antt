@@ -1,5 +1,4 @@
 -- `map_skip::limit_before` meets its contract.
--- Assumes nothing.
 use mathlib.Core.Logic.{inl, inr}
 use native.Mathlib.Omega.{arith}
 use borrow.Author.Tests.{not-true}

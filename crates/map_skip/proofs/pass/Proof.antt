@@ -1,5 +1,4 @@
 -- `map_skip::pass` meets its contract: the side of the smaller candidate goes along, up to the candidate of the other one.
--- Assumes nothing.
 use mathlib.Core.Path.{_≡_, refl, sym, ap, _∙_}
 use mathlib.Core.Bool.{not, cond}
 use lib.ListN.{length}

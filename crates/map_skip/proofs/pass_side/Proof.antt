@@ -1,5 +1,4 @@
 -- `map_skip::pass_side` meets its contract. The invariant: `Passing`, as many candidates as counted are passed over.
--- Assumes nothing.
 use mathlib.Core.Path.{refl, ap}
 use Prim.Native.Nat.{_-_}
 use native.Mathlib.Omega.{arith}

@@ -1,5 +1,4 @@
 -- `record_array::map_array` meets its contract: a walk of its MIR, by hand. The first n records of the local array are lent to `map_records` for a lifetime of the call, and the array is whole again behind it.
--- Assumes nothing.
 use mathlib.Core.Path.{_≡_, refl, sym, _∙_, ap, subst}
 use Prim.Native.Nat.{ℕ, _<_, _≤_, _^_}
 use mathlib.Core.List.{[], _∷_, List}

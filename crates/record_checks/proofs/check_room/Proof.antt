@@ -1,5 +1,4 @@
 -- `record_checks::check_room` meets its contract: the refusal of the plan, and the room of the shortest column.
--- Assumes nothing.
 use mathlib.Core.Path.{_∙_, ap}
 use Prim.Native.Nat.{min}
 use Rattle.record_checks.proofs.Checking.{told, checked-for}

@@ -1,5 +1,4 @@
 -- `record_checks::checked_as` meets its contract: the refusal of the plan, no room, or room.
--- Assumes nothing.
 use native.Mathlib.Omega.{arith}
 use Rattle.record_checks.proofs.Checking.{refused-before, no-room, with-room}
 use Rattle.record_checks.proofs.checked_as.Statement.{statement}

@@ -1,5 +1,4 @@
 -- `record_checks::shorter` meets its contract: the lesser of two.
--- Assumes nothing.
 use native.Mathlib.Omega.{arith}
 use Rattle.record_checks.proofs.shorter.Statement.{statement}
 use Rattle.record_checks.proofs.shorter.Tie as tie

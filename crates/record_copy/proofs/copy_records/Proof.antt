@@ -1,5 +1,4 @@
 -- `record_copy::copy_records` meets its contract: a walk of its MIR, by hand, with a loop over a slice of records. The invariant is that the columns hold the fields of the first i records.
--- Assumes nothing.
 use mathlib.Core.Path.{_≡_, refl, sym, _∙_, ap, subst}
 use mathlib.Core.Bool.{Bool, true, false}
 use Prim.Native.Nat.{ℕ, zero, suc, _<_, _≤_, _^_, _*_, _+_}

@@ -1,5 +1,4 @@
 -- `record_copy::put_row` meets its contract: three stores.
--- Assumes nothing.
 use mathlib.Core.Path.{refl}
 use borrow.Author.Needs.{needs}
 use Rattle.record_copy.proofs.put_row.Statement.{statement}

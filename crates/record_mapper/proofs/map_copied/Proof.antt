@@ -1,5 +1,4 @@
 -- `record_mapper::map_copied` meets its contract: the refusal of the check, or what `map` answers.
--- Assumes nothing.
 use mathlib.Core.Path.{refl}
 use Rattle.record_mapper.proofs.Entering.{prefix, copied-refused, copied-mapped}
 use borrow.Author.Needs.{needs}

@@ -1,5 +1,4 @@
 -- `record_mapper::map_records` meets its contract: a walk of its MIR, by hand. The check tells how many records are copied, the columns are lent again to `copy_records`, and given for good to `map_copied`.
--- Assumes nothing.
 use mathlib.Core.Path.{_≡_, refl, sym, _∙_, ap, subst}
 use Prim.Native.Nat.{ℕ, _<_, _^_, min}
 use mathlib.Core.List.{[], _∷_, List}

@@ -1,5 +1,4 @@
 -- `test_bases::find` meets its contract. The invariant: the place is between the start and the end.
--- Assumes nothing.
 use native.Mathlib.Omega.{arith}
 use Prim.Native.Nat.{_≤_, _-_}
 use Rattle.test_bases.proofs.find.Statement.{statement}

@@ -1,5 +1,4 @@
 -- `test_bases::judge_lines` is safe and ends. The invariant: the next line starts at most one past the end.
--- Assumes nothing.
 use borrow.Author.Needs.{needs}
 use Prim.Native.Nat.{_≤_, _-_, _+_}
 use lib.ListN.{length}

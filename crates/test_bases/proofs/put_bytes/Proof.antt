@@ -1,5 +1,4 @@
 -- `test_bases::put_bytes` is safe and ends. The invariant: the counter is a byte.
--- Assumes nothing.
 use native.Mathlib.Omega.{arith}
 use borrow.Author.Needs.{needs}
 use Prim.Native.Nat.{_≤_, _-_}

@@ -1,5 +1,4 @@
 -- `test_index::run_build` is safe and ends. The first entries lent of a column are as many as are taken.
--- Assumes nothing.
 use native.Mathlib.Omega.{arith}
 use lib.Seq.{length-take-le}
 use mathlib.Core.Path.{sym}

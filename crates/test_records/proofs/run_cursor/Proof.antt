@@ -1,5 +1,4 @@
 -- `test_records::run_cursor` is safe and ends. What a cursor is moved along is written out: one target of capitals, and ranks that are 0.
--- Assumes nothing.
 use mathlib.Core.Path.{refl}
 use mathlib.Core.List.{[], _∷_}
 use Prim.Native.Nat.{ℕ, zero, suc, _<_}

@@ -1,5 +1,4 @@
 -- `audit::finish::plain_finish` meets its contract: it is that of the inner call, with seeds of 15 bases and qualities from 33 on.
--- Assumes nothing.
 use borrow.Author.Needs.{needs}
 use Rattle.audit.proofs.finish.plain_finish.Statement.{statement}
 use Rattle.audit.proofs.finish.plain_finish.Tie as tie

@@ -1,5 +1,4 @@
 -- `audit_sheet::balance::books_agree` meets its contract.
--- Assumes nothing.
 use Rattle.audit_sheet.proofs.Telling.{by-roles, by-placements, by-singles, by-multi}
 use borrow.Author.Needs.{needs}
 use Rattle.audit_sheet.proofs.balance.books_agree.Statement.{statement}

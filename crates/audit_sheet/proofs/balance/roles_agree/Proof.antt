@@ -1,5 +1,4 @@
 -- `audit_sheet::balance::roles_agree` meets its contract.
--- Assumes nothing.
 use mathlib.Core.Path.{_∙_}
 use Rattle.audit_ledger.specs.Balance.{roleAgrees}
 use Rattle.audit_model.specs.Settings.{statesShown}

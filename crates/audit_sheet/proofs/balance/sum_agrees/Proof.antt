@@ -1,5 +1,4 @@
 -- `audit_sheet::balance::sum_agrees` meets its contract. The invariant: `Summed`, the numbers that are summed.
--- Assumes nothing.
 use native.Mathlib.Omega.{arith}
 use Prim.Native.Nat.{_-_}
 use lib.ListN.{length}

@@ -1,5 +1,4 @@
 -- `audit_sheet::showing::run_status` meets its contract.
--- Assumes nothing.
 use Rattle.audit_sheet.proofs.Telling.{disabled-status, limit-status, complete-status}
 use Rattle.audit_sheet.proofs.showing.run_status.Statement.{statement}
 use Rattle.audit_sheet.proofs.showing.run_status.Tie as tie

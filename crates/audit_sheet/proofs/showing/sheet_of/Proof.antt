@@ -1,5 +1,4 @@
 -- `audit_sheet::showing::sheet_of` meets its contract.
--- Assumes nothing.
 use borrow.Author.Needs.{needs}
 use Rattle.audit_sheet.proofs.showing.sheet_of.Statement.{statement}
 use Rattle.audit_sheet.proofs.showing.sheet_of.Tie as tie

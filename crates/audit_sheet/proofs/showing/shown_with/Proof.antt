@@ -1,5 +1,4 @@
 -- `audit_sheet::showing::shown_with` meets its contract.
--- Assumes nothing.
 use Rattle.audit_sheet.proofs.Telling.{complete-shown, other-shown}
 use borrow.Author.Needs.{needs}
 use Rattle.audit_sheet.proofs.showing.shown_with.Statement.{statement}

@@ -1,5 +1,4 @@
 -- `audit_tested::observe::observe_tested` meets its contract: order and roles, the checks of the reads, and what is observed of them.
--- Assumes nothing.
 use mathlib.Core.Path.{sym, ap, _∙_}
 use mathlib.Core.Bool.{_&&_}
 use mathlib.Core.Logic.{⊎-elim}

@@ -1,5 +1,4 @@
 -- `bases::base::code_in` meets its contract: the entry divided by 256.
--- Assumes nothing.
 use native.Mathlib.Omega.{arith}
 use Rattle.bases.proofs.Bytes.{complement-byte, code-le}
 use borrow.Author.Needs.{needs}

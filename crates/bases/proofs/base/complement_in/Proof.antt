@@ -1,5 +1,4 @@
 -- `bases::base::complement_in` meets its contract: the remainder of the entry by 256.
--- Assumes nothing.
 use native.Mathlib.Omega.{arith}
 use Rattle.bases.proofs.Bytes.{complement-byte}
 use borrow.Author.Needs.{needs}

@@ -1,5 +1,4 @@
 -- `bases::base::table` meets its contract: the test of the table, computed at all 256 bytes.
--- Assumes nothing.
 use mathlib.Core.Path.{refl}
 use Rattle.bases.specs.Base.{codeOf, complementOf}
 use Rattle.bases.proofs.Bytes.{table-right}

@@ -1,5 +1,4 @@
 -- `bases::eligibility::all_bases` meets its contract. The invariant: the answer for the bytes from i on is the answer for all.
--- Assumes nothing.
 use mathlib.Core.Path.{_≡_, refl, sym, ap, _∙_}
 use Prim.Native.Nat.{_-_, _≤_}
 use native.Mathlib.Omega.{arith}

@@ -1,5 +1,4 @@
 -- `bases::eligibility::judge_given` meets its contract, by whether qualities are present and as many as the bases.
--- Assumes nothing.
 use native.Mathlib.Omega.{arith}
 use mathlib.Core.Path.{_∙_}
 use borrow.Author.Tests.{not-true, not-false}

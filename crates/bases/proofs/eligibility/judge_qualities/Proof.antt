@@ -1,5 +1,4 @@
 -- `bases::eligibility::judge_qualities` meets its contract. The invariant: the verdict on the bytes from i on is the verdict on all.
--- Assumes nothing.
 use mathlib.Core.Path.{_≡_, refl, sym, ap, _∙_}
 use Prim.Native.Nat.{_-_, _≤_}
 use native.Mathlib.Omega.{arith}

@@ -1,5 +1,4 @@
 -- `bases::eligibility::judge_quality` meets its contract, by the three tests of a byte.
--- Assumes nothing.
 use native.Mathlib.Omega.{arith}
 use Rattle.bases.proofs.Verdicts.{below-offset, past-last, too-low, high-enough}
 use Rattle.bases.proofs.eligibility.judge_quality.Statement.{statement}

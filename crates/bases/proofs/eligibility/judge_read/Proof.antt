@@ -1,5 +1,4 @@
 -- `bases::eligibility::judge_read` meets its contract: no bases, then the qualities, then the bases decide.
--- Assumes nothing.
 use mathlib.Core.Path.{sym, _∙_}
 use mathlib.Core.Bool.{true, false}
 use Rattle.bases.proofs.Verdicts.{of-none, by-qualities, by-bases}

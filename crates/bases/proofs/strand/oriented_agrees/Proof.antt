@@ -1,5 +1,4 @@
 -- `bases::strand::oriented_agrees` meets its contract: complements by the sum of their bits, a base itself by the bits.
--- Assumes nothing.
 use mathlib.Core.Path.{_∙_}
 use native.Mathlib.Omega.{arith}
 use borrow.Author.Needs.{needs}

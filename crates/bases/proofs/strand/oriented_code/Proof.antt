@@ -1,5 +1,4 @@
 -- `bases::strand::oriented_code` meets its contract: past the end, on '+', and on '-', where base i is counted from the other end.
--- Assumes nothing.
 use native.Mathlib.Omega.{arith}
 use mathlib.Core.Path.{ap, _∙_}
 use Rattle.bases.specs.Base.{codeOf}

@@ -1,5 +1,4 @@
 -- `batch_reads::approach::first_key` asks for a seed only where there is one.
--- Assumes nothing.
 use native.Mathlib.Omega.{arith}
 use borrow.Author.Needs.{needs}
 use Rattle.index_seeds.proofs.Keying.{seed-in}

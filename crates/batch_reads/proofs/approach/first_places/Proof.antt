@@ -1,5 +1,4 @@
 -- `batch_reads::approach::first_places` stays within its arrays and the list of reads.
--- Assumes nothing.
 use Prim.Native.Nat.{_-_, _≤_}
 use native.Mathlib.Omega.{arith}
 use borrow.Author.Needs.{needs}

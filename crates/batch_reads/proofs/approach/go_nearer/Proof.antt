@@ -1,5 +1,4 @@
 -- `batch_reads::approach::go_nearer` stays within its arrays.
--- Assumes nothing.
 use Prim.Native.Nat.{_-_, _≤_}
 use borrow.Author.Needs.{needs}
 use Rattle.batch_reads.proofs.approach.go_nearer.Statement.{statement}

@@ -1,5 +1,4 @@
 -- `c_calls::finish::apply_numbers` meets its contract: 26, or the rows of the targets.
--- Assumes nothing.
 use mathlib.Core.Path.{sym, _∙_}
 use borrow.Author.Tests.{not-true, not-false}
 use Rattle.c_calls.proofs.Telling.{apply-wrong, apply-told}

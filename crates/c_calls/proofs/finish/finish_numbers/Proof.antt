@@ -1,5 +1,4 @@
 -- `c_calls::finish::finish_numbers` meets its contract: 26, or the finish, and its sheet.
--- Assumes nothing.
 use mathlib.Core.Path.{sym, _∙_}
 use native.Mathlib.Omega.{arith}
 use borrow.Author.Tests.{not-true, not-false}

@@ -1,5 +1,4 @@
 -- `c_calls::fragment::fragment_numbers` meets its contract: 26, or the fragment, and the state and the rows that it leaves.
--- Assumes nothing.
 use mathlib.Core.Path.{refl, sym, _∙_}
 use native.Mathlib.Omega.{arith}
 use borrow.Author.Tests.{not-true, not-false}

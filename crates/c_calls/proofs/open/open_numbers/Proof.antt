@@ -1,5 +1,4 @@
 -- `c_calls::open::open_numbers` meets its contract: 26, or the opening, and the state that it leaves.
--- Assumes nothing.
 use native.Mathlib.Omega.{arith}
 use Rattle.c_calls.proofs.Telling.{no-room, no-mode, no-remap, open-all, open-wrong, open-told}
 use borrow.Author.Needs.{needs}

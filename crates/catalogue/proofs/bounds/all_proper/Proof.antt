@@ -1,5 +1,4 @@
 -- `catalogue::bounds::all_proper` meets its contract, by a loop over all sequences.
--- Assumes nothing.
 use native.Mathlib.Omega.{arith}
 use borrow.Author.Needs.{needs}
 use mathlib.Core.Path.{sym, _∙_}

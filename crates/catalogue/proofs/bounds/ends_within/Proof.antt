@@ -1,5 +1,4 @@
 -- `catalogue::bounds::ends_within` meets its contract. The invariant: the answer for the ends from i on is the answer for all.
--- Assumes nothing.
 use native.Mathlib.Omega.{arith}
 use borrow.Author.Needs.{needs}
 use mathlib.Core.Path.{_≡_, refl, sym, ap, _∙_}

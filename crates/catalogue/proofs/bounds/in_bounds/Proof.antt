@@ -1,5 +1,4 @@
 -- `catalogue::bounds::in_bounds` meets its contract, by the tests in their order.
--- Assumes nothing.
 use mathlib.Core.Path.{_≡_, sym, ap, _∙_}
 use mathlib.Core.Bool.{true}
 use Prim.Native.Nat.{_≤_, min}

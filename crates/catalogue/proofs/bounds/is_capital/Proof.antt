@@ -1,5 +1,4 @@
 -- `catalogue::bounds::is_capital` meets its contract, by the first letter that the byte equals.
--- Assumes nothing.
 use native.Mathlib.Omega.{arith}
 use Rattle.catalogue.proofs.Checks.{is-A, is-C, is-G, or-T}
 use Rattle.catalogue.proofs.bounds.is_capital.Statement.{statement}

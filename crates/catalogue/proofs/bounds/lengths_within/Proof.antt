@@ -1,5 +1,4 @@
 -- `catalogue::bounds::lengths_within` meets its contract, by a loop over all sequences.
--- Assumes nothing.
 use mathlib.Core.Path.{ap, _∙_}
 use native.Mathlib.Omega.{arith}
 use borrow.Author.Needs.{needs}

@@ -1,5 +1,4 @@
 -- `catalogue::bounds::proper_sequence` meets its contract, by whether there are bases.
--- Assumes nothing.
 use mathlib.Core.Path.{_∙_}
 use native.Mathlib.Omega.{arith}
 use Rattle.catalogue.proofs.Checks.{empty-sequence, some-sequence}

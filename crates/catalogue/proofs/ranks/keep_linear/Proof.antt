@@ -1,5 +1,4 @@
 -- `catalogue::ranks::keep_linear` meets its contract. The invariant: the first i places are filtered.
--- Assumes nothing.
 use native.Mathlib.Omega.{arith}
 use borrow.Author.Needs.{needs}
 use Prim.Native.Nat.{_-_}

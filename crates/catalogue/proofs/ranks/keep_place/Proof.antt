@@ -1,5 +1,4 @@
 -- `catalogue::ranks::keep_place` meets its contract, by the mark.
--- Assumes nothing.
 use mathlib.Core.Path.{sym, ap}
 use mathlib.Core.Bool.{cond}
 use Prim.Native.Nat.{_+_}

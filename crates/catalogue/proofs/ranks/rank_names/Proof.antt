@@ -1,5 +1,4 @@
 -- `catalogue::ranks::rank_names` meets its contract: equal names are refused, others put in order and filtered.
--- Assumes nothing.
 use native.Mathlib.Omega.{arith}
 use mathlib.Core.Path.{sym, ap, _∙_}
 use mathlib.Core.List.{List}

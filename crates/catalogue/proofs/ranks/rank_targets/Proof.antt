@@ -1,5 +1,4 @@
 -- `catalogue::ranks::rank_targets` meets its contract, by the checks in their order.
--- Assumes nothing.
 use mathlib.Core.Path.{_≡_, sym, _∙_}
 use mathlib.Core.Bool.{true}
 use Prim.Native.Nat.{_≤_}

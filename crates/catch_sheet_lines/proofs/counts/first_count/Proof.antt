@@ -1,5 +1,4 @@
 -- `catch_sheet_lines::counts::first_count` meets its contract.
--- Assumes nothing.
 use borrow.Author.Needs.{needs}
 use Rattle.catch_sheet_lines.proofs.counts.first_count.Statement.{statement}
 use Rattle.catch_sheet_lines.proofs.counts.first_count.Tie as tie

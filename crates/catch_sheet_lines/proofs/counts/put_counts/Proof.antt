@@ -1,5 +1,4 @@
 -- `catch_sheet_lines::counts::put_counts` meets its contract.
--- Assumes nothing.
 use borrow.Author.Needs.{needs}
 use Rattle.catch_sheet_lines.proofs.Counting.{single-told, paired-told}
 use Rattle.catch_sheet_lines.proofs.counts.put_counts.Statement.{statement}

@@ -1,5 +1,4 @@
 -- `catch_sheet_lines::counts::put_states` meets its contract.
--- Assumes nothing.
 use native.Mathlib.Omega.{arith}
 use borrow.Author.Tests.{not-true, not-false}
 use borrow.Author.Needs.{needs}

@@ -1,5 +1,4 @@
 -- `catch_sheet_lines::groups::put_entry` meets its contract.
--- Assumes nothing.
 use mathlib.Core.List.{List}
 use Prim.Native.Nat.{ℕ, _+_, _*_}
 use lib.ListN.{getD}

@@ -1,5 +1,4 @@
 -- `catch_sheet_lines::groups::put_groups` meets its contract. The loop's invariant: the lines of the entries passed stand behind those of the output.
--- Assumes nothing.
 use mathlib.Core.Path.{refl}
 use Prim.Native.Nat.{ℕ, _-_}
 use native.Mathlib.Omega.{arith}

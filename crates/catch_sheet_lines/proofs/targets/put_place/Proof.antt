@@ -1,5 +1,4 @@
 -- `catch_sheet_lines::targets::put_place` meets its contract.
--- Assumes nothing.
 use mathlib.Core.Path.{_≡_}
 use mathlib.Core.List.{List, []}
 use Prim.Native.Nat.{ℕ}

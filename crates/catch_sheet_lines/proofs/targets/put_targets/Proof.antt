@@ -1,5 +1,4 @@
 -- `catch_sheet_lines::targets::put_targets` meets its contract. The loop's invariant: the lines of the targets passed stand behind those of the output.
--- Assumes nothing.
 use mathlib.Core.Path.{refl}
 use Prim.Native.Nat.{_-_}
 use native.Mathlib.Omega.{arith}

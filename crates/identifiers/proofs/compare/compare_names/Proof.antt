@@ -1,5 +1,4 @@
 -- `identifiers::compare::compare_names` meets its contract. The invariant: the names are equal before byte i.
--- Assumes nothing.
 use borrow.Author.Needs.{needs}
 use Prim.Native.Nat.{_-_}
 use lib.ListN.{length}

@@ -1,5 +1,4 @@
 -- `identifiers::sequences::sequence_at` meets its contract: a sequence by its place.
--- Assumes nothing.
 use native.Mathlib.Omega.{arith}
 use mathlib.Core.Path.{sym, ap, _∙_}
 use Prim.Native.Nat.{_-_}

@@ -1,5 +1,4 @@
 -- `identifiers::sequences::start_at` meets its contract, by whether an end stands before.
--- Assumes nothing.
 use Rattle.lists.proofs.Cut.{start-before}
 use borrow.Author.Needs.{needs}
 use Rattle.identifiers.proofs.sequences.start_at.Statement.{statement}

@@ -1,5 +1,4 @@
 -- `index_lookup::lookup::first_step` meets its contract: the first key is at most the last.
--- Assumes nothing.
 use borrow.Author.Needs.{needs}
 use Rattle.index_lookup.proofs.Searching.{rising-ends}
 use Rattle.index_lookup.proofs.lookup.first_step.Statement.{statement}

@@ -1,5 +1,4 @@
 -- `index_lookup::lookup::lower_bound` meets its contract. The invariant: the place looked for is between low and high, and so is the next probe.
--- Assumes nothing.
 use native.Mathlib.Omega.{arith}
 use borrow.Author.Needs.{needs}
 use Prim.Native.Nat.{_-_}

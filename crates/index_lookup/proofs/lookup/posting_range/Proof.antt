@@ -1,5 +1,4 @@
 -- `index_lookup::lookup::posting_range` meets its contract: the places of a bound and of the next one, or the end.
--- Assumes nothing.
 use native.Mathlib.Omega.{arith}
 use Rattle.index_lookup.proofs.Searching.{range-none, range-last, range-next, below-next}
 use borrow.Author.Needs.{needs}

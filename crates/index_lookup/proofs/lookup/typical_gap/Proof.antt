@@ -1,5 +1,4 @@
 -- `index_lookup::lookup::typical_gap` meets its contract.
--- Assumes nothing.
 use Rattle.index_lookup.proofs.Searching.{rising-ends}
 use borrow.Author.Needs.{needs}
 use Rattle.index_lookup.proofs.lookup.typical_gap.Statement.{statement}

@@ -1,5 +1,4 @@
 -- `index_calls::ranked::count_postings` meets its contract. The invariant: the seeds of the first ranks are counted.
--- Assumes nothing.
 use native.Mathlib.Omega.{arith}
 use lib.ListN.{length}
 use Rattle.index_model.specs.Index.{rankedSequences}

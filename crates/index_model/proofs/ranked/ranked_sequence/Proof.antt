@@ -1,5 +1,4 @@
 -- `index_calls::ranked::ranked_sequence` meets its contract: a ranked place is one of the targets.
--- Assumes nothing.
 use mathlib.Core.Path.{_∙_}
 use native.Mathlib.Omega.{arith}
 use Rattle.index_model.proofs.Sequencing.{place-below, ranked-at}

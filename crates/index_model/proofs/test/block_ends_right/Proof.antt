@@ -1,5 +1,4 @@
 -- `index_model::test::block_ends_right` meets its contract. The invariant: what is denied so far does not hold.
--- Assumes nothing.
 use Prim.Native.Nat.{_-_}
 use native.Mathlib.Omega.{arith}
 use borrow.Author.Needs.{needs}

@@ -1,5 +1,4 @@
 -- `index_model::test::block_right` meets its contract. The invariant: the rows of the block up to i are seeds and climb.
--- Assumes nothing.
 use mathlib.Core.Path.{_∙_}
 use Prim.Native.Nat.{_-_}
 use native.Mathlib.Omega.{arith}

@@ -1,5 +1,4 @@
 -- `index_model::test::ends_right` meets its contract: no such rank, too short a sequence, too late a start, or the first or the last base decides.
--- Assumes nothing.
 use mathlib.Core.Path.{_∙_}
 use native.Mathlib.Omega.{arith}
 use borrow.Author.Needs.{needs}

@@ -1,5 +1,4 @@
 -- `index_model::test::has_seed` meets its contract: too short a sequence, too late a start, or the key decides.
--- Assumes nothing.
 use Rattle.index_model.proofs.Testing.{short-sequence, late-start, by-key}
 use native.Mathlib.Omega.{arith}
 use borrow.Author.Needs.{needs}

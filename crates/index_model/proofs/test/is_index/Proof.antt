@@ -1,5 +1,4 @@
 -- `index_calls::index::is_index` meets its contract: another number of rows, or the rows decide.
--- Assumes nothing.
 use native.Mathlib.Omega.{arith}
 use Rattle.index_model.specs.Index.{rankedSequences}
 use Rattle.index_model.proofs.Indexing.{length-index, other-number, by-rows}

@@ -1,5 +1,4 @@
 -- `index_model::test::is_seed` meets its contract: no such rank, or its sequence decides.
--- Assumes nothing.
 use native.Mathlib.Omega.{arith}
 use mathlib.Core.Path.{_∙_}
 use Rattle.index_model.specs.Index.{rankedSequences}

@@ -1,5 +1,4 @@
 -- `index_calls::index::row_climbs` meets its contract: the first row, or the order of two neighbours.
--- Assumes nothing.
 use Rattle.index_model.proofs.Testing.{first-climbs, next-climbs}
 use borrow.Author.Needs.{needs}
 use Rattle.index_model.proofs.test.row_climbs.Statement.{statement}

@@ -1,5 +1,4 @@
 -- `index_model::test::rows_right` meets its contract. The invariant: the rows in front of the block are seeds and climb.
--- Assumes nothing.
 use Prim.Native.Nat.{_-_}
 use native.Mathlib.Omega.{arith}
 use lib.ListN.{length}

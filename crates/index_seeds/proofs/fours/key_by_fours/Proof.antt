@@ -1,5 +1,4 @@
 -- `index_seeds::fours::key_by_fours` meets its contract: fours first, then at most three bases.
--- Assumes nothing.
 use native.Mathlib.Omega.{arith}
 use borrow.Author.Needs.{needs}
 use Rattle.index_seeds.proofs.fours.key_by_fours.Statement.{statement}

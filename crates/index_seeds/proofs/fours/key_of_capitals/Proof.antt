@@ -1,5 +1,4 @@
 -- `index_seeds::fours::key_of_capitals` meets its contract: the numbers on the way fit, and the product has the key.
--- Assumes nothing.
 use native.Mathlib.Omega.{arith}
 use Rattle.index_seeds.proofs.Capitals.{word-small, codes-small, joined}
 use Rattle.index_seeds.proofs.fours.key_of_capitals.Statement.{statement}

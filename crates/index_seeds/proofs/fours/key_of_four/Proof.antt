@@ -1,5 +1,4 @@
 -- `index_seeds::fours::key_of_four` meets its contract: the four capitals are the window.
--- Assumes nothing.
 use mathlib.Core.Path.{sym, ap, _∙_}
 use Prim.Native.Nat.{_+_}
 use native.Mathlib.Omega.{arith}

@@ -1,5 +1,4 @@
 -- `index_seeds::fours::key_of_fours` meets its contract. The invariant: the key of the first k times four bases.
--- Assumes nothing.
 use mathlib.Core.Path.{_≡_}
 use Prim.Native.Nat.{_-_, _*_, _≤_}
 use native.Mathlib.Omega.{arith}

@@ -1,5 +1,4 @@
 -- `index_seeds::keys::key_at` meets its contract: nothing is keyed yet.
--- Assumes nothing.
 use borrow.Author.Needs.{needs}
 use Rattle.index_seeds.proofs.Keying.{digits-start}
 use Rattle.index_seeds.proofs.keys.key_at.Statement.{statement}

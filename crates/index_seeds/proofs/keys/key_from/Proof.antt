@@ -1,5 +1,4 @@
 -- `index_seeds::keys::key_from` meets its contract. The invariant: the key of the first i bases.
--- Assumes nothing.
 use native.Mathlib.Omega.{arith}
 use Prim.Native.Nat.{_-_}
 use Rattle.bases.specs.Read.{oriented}

@@ -1,5 +1,4 @@
 -- `index_seeds::keys::key_next` meets its contract, by the step of a key.
--- Assumes nothing.
 use native.Mathlib.Omega.{arith}
 use Prim.Native.Nat.{_+_}
 use Rattle.bases.specs.Read.{oriented}

@@ -1,5 +1,4 @@
 -- `index_seeds::keys::key_on` meets its contract: the first start, or one step.
--- Assumes nothing.
 use native.Mathlib.Omega.{arith}
 use mathlib.Core.Path.{_≡_, ap, _∙_}
 use Prim.Native.Nat.{_+_, _-_}

@@ -1,5 +1,4 @@
 -- `index_seeds::keys::power` meets its contract. The invariant: the product so far.
--- Assumes nothing.
 use native.Mathlib.Omega.{arith}
 use mathlib.Core.Path.{_≡_, refl}
 use Prim.Native.Nat.{_≤_, _-_, _^_}

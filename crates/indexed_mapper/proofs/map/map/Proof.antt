@@ -1,5 +1,4 @@
 -- `indexed_mapper::map::map` meets its contract: the ranking's refusal, or the answer for the ranked sequences.
--- Assumes nothing.
 use native.Mathlib.Omega.{arith}
 use Rattle.index_plan.proofs.Planning.{within-buffer, prefix-length, lent, seed-length}
 use Rattle.indexed_mapper.proofs.Mapping.{map-refused, map-done}

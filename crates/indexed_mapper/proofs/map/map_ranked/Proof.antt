@@ -1,5 +1,4 @@
 -- `indexed_mapper::map::map_ranked` meets its contract: refusal 6, or the answer for the read.
--- Assumes nothing.
 use mathlib.Core.Path.{sym, _∙_}
 use borrow.Author.Tests.{not-true, not-false}
 use Rattle.index_model.specs.Index.{rankedSequences}

@@ -1,5 +1,4 @@
 -- `jekaumeo::build::jekaumeo_build` meets its contract: the build, where its numbers have room.
--- Assumes nothing.
 use native.Mathlib.Omega.{arith}
 use Rattle.jekaumeo.proofs.Answering.{build-short, build-room}
 use borrow.Author.Needs.{needs}

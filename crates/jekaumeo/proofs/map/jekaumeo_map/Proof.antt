@@ -1,5 +1,4 @@
 -- `jekaumeo::map::jekaumeo_map` meets its contract: the mapping, where its numbers have room.
--- Assumes nothing.
 use native.Mathlib.Omega.{arith}
 use Rattle.jekaumeo.proofs.Answering.{map-short, map-room}
 use borrow.Author.Needs.{needs}

@@ -1,5 +1,4 @@
 -- `jekaumeo::plan::jekaumeo_plan` meets its contract: the plan, where its numbers have room.
--- Assumes nothing.
 use native.Mathlib.Omega.{arith}
 use Rattle.jekaumeo.proofs.Answering.{plan-short, plan-room}
 use borrow.Author.Needs.{needs}

@@ -1,5 +1,4 @@
 -- `jekaumeo_audit::apply_to_unitigs::jekaumeo_apply_to_unitigs` meets its contract: the rows of the targets.
--- Assumes nothing.
 use borrow.Author.Needs.{needs}
 use Rattle.jekaumeo_audit.proofs.apply_to_unitigs.jekaumeo_apply_to_unitigs.Statement.{statement}
 use Rattle.jekaumeo_audit.proofs.apply_to_unitigs.jekaumeo_apply_to_unitigs.Tie as tie

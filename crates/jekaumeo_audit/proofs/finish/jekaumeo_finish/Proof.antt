@@ -1,5 +1,4 @@
 -- `jekaumeo_audit::finish::jekaumeo_finish` meets its contract: `finish` with the lent index.
--- Assumes nothing.
 use borrow.Author.Needs.{needs}
 use Rattle.jekaumeo_audit.proofs.finish.jekaumeo_finish.Statement.{statement}
 use Rattle.jekaumeo_audit.proofs.finish.jekaumeo_finish.Tie as tie

@@ -1,5 +1,4 @@
 -- `jekaumeo_audit::fragment::jekaumeo_fragment` meets its contract: the fragment call with the lent index.
--- Assumes nothing.
 use borrow.Author.Needs.{needs}
 use Rattle.jekaumeo_audit.proofs.fragment.jekaumeo_fragment.Statement.{statement}
 use Rattle.jekaumeo_audit.proofs.fragment.jekaumeo_fragment.Tie as tie

@@ -1,5 +1,4 @@
 -- `jekaumeo_audit::fragments::jekaumeo_fragments` meets its contract: the call over the list.
--- Assumes nothing.
 use borrow.Author.Needs.{needs}
 use Rattle.jekaumeo_audit.proofs.fragments.jekaumeo_fragments.Statement.{statement}
 use Rattle.jekaumeo_audit.proofs.fragments.jekaumeo_fragments.Tie as tie

@@ -1,5 +1,4 @@
 -- `jekaumeo_audit::open::jekaumeo_open` meets its contract: the opening with the lent index.
--- Assumes nothing.
 use borrow.Author.Needs.{needs}
 use Rattle.jekaumeo_audit.proofs.open.jekaumeo_open.Statement.{statement}
 use Rattle.jekaumeo_audit.proofs.open.jekaumeo_open.Tie as tie

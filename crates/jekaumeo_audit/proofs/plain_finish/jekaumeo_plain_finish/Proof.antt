@@ -1,5 +1,4 @@
 -- `jekaumeo_audit::plain_finish::jekaumeo_plain_finish` meets its contract: the finish with no index.
--- Assumes nothing.
 use borrow.Author.Needs.{needs}
 use Rattle.jekaumeo_audit.proofs.plain_finish.jekaumeo_plain_finish.Statement.{statement}
 use Rattle.jekaumeo_audit.proofs.plain_finish.jekaumeo_plain_finish.Tie as tie

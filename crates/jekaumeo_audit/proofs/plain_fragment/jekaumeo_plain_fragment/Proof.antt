@@ -1,5 +1,4 @@
 -- `jekaumeo_audit::plain_fragment::jekaumeo_plain_fragment` meets its contract: the fragment with no index.
--- Assumes nothing.
 use borrow.Author.Needs.{needs}
 use Rattle.jekaumeo_audit.proofs.plain_fragment.jekaumeo_plain_fragment.Statement.{statement}
 use Rattle.jekaumeo_audit.proofs.plain_fragment.jekaumeo_plain_fragment.Tie as tie

@@ -1,5 +1,4 @@
 -- `jekaumeo_audit::plain_open::jekaumeo_plain_open` meets its contract: the opening with no index.
--- Assumes nothing.
 use borrow.Author.Needs.{needs}
 use Rattle.jekaumeo_audit.proofs.plain_open.jekaumeo_plain_open.Statement.{statement}
 use Rattle.jekaumeo_audit.proofs.plain_open.jekaumeo_plain_open.Tie as tie

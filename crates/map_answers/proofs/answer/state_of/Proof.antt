@@ -1,5 +1,4 @@
 -- `map_answers::answer::state_of` meets its contract: no group, one, or more.
--- Assumes nothing.
 use Rattle.map_answers.proofs.Concluding.{state-many}
 use borrow.Author.Needs.{needs}
 use Rattle.map_answers.proofs.answer.state_of.Statement.{statement}

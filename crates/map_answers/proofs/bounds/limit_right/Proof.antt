@@ -1,5 +1,4 @@
 -- `map_answers::bounds::limit_right` meets its contract, bound by bound.
--- Assumes nothing.
 use native.Mathlib.Omega.{arith}
 use borrow.Author.Tests.{lt-leb, le-leb}
 use Rattle.map_answers.proofs.bounds.limit_right.Statement.{statement}

@@ -1,5 +1,4 @@
 -- `map_by_index::by_index::search_index` meets its contract. The invariant: `Both`, two sides and what was compared.
--- Assumes nothing.
 use borrow.Author.Needs.{needs}
 use mathlib.Core.Path.{refl, sym, _∙_}
 use native.Mathlib.Omega.{arith}

@@ -1,5 +1,4 @@
 -- `map_candidates::cursor::has_room` meets its contract.
--- Assumes nothing.
 use native.Mathlib.Omega.{arith}
 use Rattle.map_candidates.proofs.Moving.{starts-before, ends-past, room-left}
 use Rattle.map_candidates.proofs.cursor.has_room.Statement.{statement}

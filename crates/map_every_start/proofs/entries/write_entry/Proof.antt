@@ -1,5 +1,4 @@
 -- `map_every_start::entries::write_entry` meets its contract: four numbers from four times its place on.
--- Assumes nothing.
 use native.Mathlib.Omega.{arith}
 use borrow.Author.Needs.{needs}
 use Rattle.map_every_start.proofs.entries.write_entry.Statement.{statement}

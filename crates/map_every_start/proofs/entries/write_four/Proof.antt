@@ -1,5 +1,4 @@
 -- `map_every_start::entries::write_four` meets its contract.
--- Assumes nothing.
 use Prim.Native.Nat.{_+_}
 use lib.ListN.{set, length-set}
 use native.Mathlib.Omega.{arith}

@@ -1,5 +1,4 @@
 -- `map_every_start::every_start::scan` meets its contract. The invariant: `RanksTo`, the sequences so far were searched.
--- Assumes nothing.
 use mathlib.Core.Path.{_∙_}
 use Prim.Native.Nat.{_-_, _<_}
 use lib.ListN.{length}

@@ -1,5 +1,4 @@
 -- `map_every_start::every_start::scan_sequence` meets its contract. The invariant: `StartsTo`, the starts so far were searched.
--- Assumes nothing.
 use mathlib.Core.Path.{ap, _∙_}
 use mathlib.Core.List.{[]}
 use Prim.Native.Nat.{_+_, _-_, _≤_}

@@ -1,5 +1,4 @@
 -- `map_every_start::every_start::visit_both` meets its contract.
--- Assumes nothing.
 use native.Mathlib.Omega.{arith}
 use borrow.Author.Needs.{needs}
 use Rattle.index_model.specs.Index.{rankedSequences}

@@ -1,5 +1,4 @@
 -- `map_places::agreeing::agreement` meets its contract: whole stretches, then base by base.
--- Assumes nothing.
 use mathlib.Core.Path.{sym, _∙_}
 use Prim.Native.Nat.{_-_}
 use native.Mathlib.Omega.{arith}

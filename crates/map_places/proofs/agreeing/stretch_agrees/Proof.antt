@@ -1,5 +1,4 @@
 -- `map_places::agreeing::stretch_agrees` meets its contract. The invariant: agree says whether the first k bases do.
--- Assumes nothing.
 use mathlib.Core.Path.{_≡_, refl, ap, ap₂, _∙_}
 use mathlib.Core.Bool.{_&&_}
 use Prim.Native.Nat.{_-_, _≤_}

@@ -1,5 +1,4 @@
 -- `map_places::agreeing::whole_stretches` meets its contract: stretch by stretch.
--- Assumes nothing.
 use mathlib.Core.Path.{refl, sym, _∙_}
 use Prim.Native.Nat.{_-_}
 use native.Mathlib.Omega.{arith}

@@ -1,5 +1,4 @@
 -- `map_places::differing::differs_at` meets its contract: one base that differs is enough.
--- Assumes nothing.
 use mathlib.Core.Path.{_≡_, refl, sym, _∙_}
 use Prim.Native.Nat.{_+_, _-_}
 use native.Mathlib.Omega.{arith}

@@ -1,5 +1,4 @@
 -- `map_places::differing::place_of_doubt` stays within the sequence.
--- Assumes nothing.
 use native.Mathlib.Omega.{arith}
 use borrow.Author.Needs.{needs}
 use Rattle.map_places.proofs.differing.place_of_doubt.Statement.{statement}

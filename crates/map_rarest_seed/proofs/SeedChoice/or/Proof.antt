@@ -1,5 +1,4 @@
 -- `map_rarest_seed::SeedChoice::or` meets its contract.
--- Assumes nothing.
 use mathlib.Core.Path.{refl}
 use native.Mathlib.Omega.{arith}
 use Prim.Native.Nat.{_-_}

@@ -1,5 +1,4 @@
 -- `map_rarest_seed::showing::behind_all` meets its contract: posting by posting, what is left to agree.
--- Assumes nothing.
 use native.Mathlib.Omega.{arith}
 use Prim.Native.Nat.{_-_}
 use Rattle.index_model.specs.Index.{rankedSequences}

@@ -1,5 +1,4 @@
 -- `map_rarest_seed::showing::behind_posting` meets its contract: up to the bound, and to the last base of the target.
--- Assumes nothing.
 use native.Mathlib.Omega.{arith}
 use mathlib.Core.Path.{ap}
 use lib.ListN.{length}

@@ -1,5 +1,4 @@
 -- `map_rarest_seed::showing::shown` meets its contract: nothing where nobody looks or there are many postings, else what all of them show.
--- Assumes nothing.
 use Rattle.bases.specs.Read.{oriented}
 use Rattle.map_rarest_seed.proofs.Behind.{shown-none, shown-fewer, fewer-shown}
 use borrow.Author.Needs.{needs}

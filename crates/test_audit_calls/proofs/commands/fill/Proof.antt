@@ -1,5 +1,4 @@
 -- `test_audit_calls::commands::fill` is safe and ends. The invariant: the list keeps its length, and the end is within it.
--- Assumes nothing.
 use mathlib.Core.Path.{_≡_}
 use borrow.Author.Needs.{needs}
 use Prim.Native.Nat.{_≤_, _-_}

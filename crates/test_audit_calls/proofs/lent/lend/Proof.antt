@@ -1,5 +1,4 @@
 -- `test_audit_calls::lent::lend` is safe and ends. The first numbers of a list are as many as are taken.
--- Assumes nothing.
 use native.Mathlib.Omega.{arith}
 use lib.Seq.{length-take-le}
 use mathlib.Core.Path.{sym}

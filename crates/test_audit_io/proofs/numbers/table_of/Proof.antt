@@ -1,5 +1,4 @@
 -- `test_audit_io::numbers::table_of` is safe and ends. The invariant: the count is at most 18, and the array keeps its length.
--- Assumes nothing.
 use mathlib.Core.Path.{_≡_}
 use borrow.Author.Needs.{needs}
 use Prim.Native.Nat.{_≤_, _-_}

@@ -1,5 +1,4 @@
 -- `test_cases::reading::room` meets its contract. By the law the elements are not counted one by one.
--- Assumes nothing.
 use mathlib.Core.Path.{sym}
 use Prim.Native.Nat.{ℕ}
 use lib.ListN.{length-replicate}

@@ -1,5 +1,4 @@
 -- `test_cases::reading::whole_read` meets its contract. The invariant: there is room for the bytes, and the array keeps its length.
--- Assumes nothing.
 use borrow.Author.Needs.{needs}
 use Prim.Native.Nat.{_≤_, _<_, _-_}
 use mathlib.Core.Path.{_≡_}

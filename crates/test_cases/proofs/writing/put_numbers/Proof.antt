@@ -1,5 +1,4 @@
 -- `test_cases::writing::put_numbers` is safe and ends. The invariant: the place is at most the length.
--- Assumes nothing.
 use borrow.Author.Needs.{needs}
 use Prim.Native.Nat.{_≤_, _-_}
 use lib.ListN.{length}

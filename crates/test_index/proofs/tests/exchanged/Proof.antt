@@ -1,5 +1,4 @@
 -- `test_index::tests::exchanged` is safe and ends. Stores keep the length.
--- Assumes nothing.
 use lib.ListN.{length-set}
 use borrow.Author.Needs.{needs}
 use Rattle.test_index.proofs.tests.exchanged.Statement.{statement}

@@ -1,5 +1,4 @@
 -- `test_index::tests::raised` is safe and ends. A store keeps the length.
--- Assumes nothing.
 use lib.ListN.{length-set}
 use borrow.Author.Needs.{needs}
 use Rattle.test_index.proofs.tests.raised.Statement.{statement}

@@ -1,5 +1,4 @@
 -- `test_index::tests::run_tests` is safe and ends. The invariant: the count is at most the number of tests.
--- Assumes nothing.
 use borrow.Author.Needs.{needs}
 use Prim.Native.Nat.{_≤_, _-_}
 use Rattle.test_index.proofs.tests.run_tests.Statement.{statement}

@@ -1,5 +1,4 @@
 -- `test_map_calls::case::run_blocks` meets its contract. The invariant: at most 16 blocks.
--- Assumes nothing.
 use native.Mathlib.Omega.{arith}
 use borrow.Author.Needs.{needs}
 use Prim.Native.Nat.{_-_, _≤_}

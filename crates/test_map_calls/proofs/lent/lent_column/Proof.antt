@@ -1,5 +1,4 @@
 -- `test_map_calls::lent::lent_column` is safe and ends. A store keeps the length.
--- Assumes nothing.
 use lib.ListN.{length-set}
 use borrow.Author.Needs.{needs}
 use Rattle.test_map_calls.proofs.lent.lent_column.Statement.{statement}

@@ -1,5 +1,4 @@
 -- `test_map_calls::records::records_of` is safe and ends. The invariant: there are 256 records.
--- Assumes nothing.
 use mathlib.Core.Path.{_≡_}
 use Prim.Native.Nat.{_-_}
 use lib.ListN.{length, length-set}

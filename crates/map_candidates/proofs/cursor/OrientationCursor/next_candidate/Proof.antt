@@ -1,5 +1,4 @@
 -- `map_candidates::cursor::OrientationCursor::next_candidate` meets its contract. The invariant: `Passing`, postings passed over.
--- Assumes nothing.
 use native.Mathlib.Omega.{arith}
 use Rattle.map_candidates.proofs.Moving.{Passing, passing-none, passing-more, passing-found, passing-end, posting-lies, room-after}
 use borrow.Author.Needs.{needs}

@@ -1,5 +1,4 @@
 -- `map_candidates::sides::Sides::moved` meets its contract: the cursor of one side moves, by its own contract.
--- Assumes nothing.
 use mathlib.Core.Path.{refl}
 use Rattle.lists.proofs.Cases.{clash}
 use borrow.Author.Needs.{needs}

@@ -1,5 +1,4 @@
 -- `map_candidates::sides::Sides::plus_first` meets its contract, by rank and then by start.
--- Assumes nothing.
 use native.Mathlib.Omega.{arith}
 use borrow.Author.Tests.{not-true, not-false}
 use Rattle.map_candidates.proofs.Sooner.{first-none, first-alone, first-by-rank, first-by-start}

@@ -1,5 +1,4 @@
--- `audit_observe_read::observe_read` meets its contract: the part stays, or it comes back with the answer of the search.
--- Assumes nothing.
+-- `audit_observe_read::search_read` meets its contract: the part stays, or it comes back with the answer of the search.
 use Prim.Native.Nat.{_+_, _-_}
 use native.Mathlib.Omega.{arith}
 use borrow.Author.Tests.{not-true, not-false}
@@ -8,8 +7,8 @@ use Rattle.map_by_index.specs.Work.{plain}
 use Rattle.map_search.proofs.Parts.{part-searched}
 use Rattle.audit_observe_read.proofs.Observed.{searchable, index-searchable, not-searched, part-observed}
 use borrow.Author.Needs.{needs}
-use Rattle.audit_observe_read.proofs.observe_read.Statement.{statement}
-use Rattle.audit_observe_read.proofs.observe_read.Tie as tie
+use Rattle.audit_observe_read.proofs.search_read.Statement.{statement}
+use Rattle.audit_observe_read.proofs.search_read.Tie as tie
 
 unsearched-requires : tie.Need-unsearched-requires
 unsearched-requires c κs = search needs
@@ -63,8 +62,8 @@ returns-3 c =
     let part = part-searched plain (rankedSequences (a .bases .now) (a .ends .now) (a .ranked .now)) (a .ranked .now) (a .read .now) _ (a .from) (a .width) _ (a .entries .now) (c .before .before .before .before .before .before .before .before .before .before .before .before .before .before .pre .1) (a .from + a .width - a .from) (omega arith) _ (c .before .before .search-every-start .ensures) in
     part-observed (a .settings) (rankedSequences (a .bases .now) (a .ends .now) (a .ranked .now)) (a .indexed) (a .q) (a .ranked .now) (a .read .now) (a .searched) (a .from) (a .width) (a .entries .now) (not-false _ (c .before .before .before .before .before .if1 .left)) _ (c .before .before .before .before .if2 .left) _ (omega arith) _ _ part
 
-pub observe-read-spec : {M : Type 1} → statement M
-observe-read-spec =
+pub search-read-spec : {M : Type 1} → statement M
+search-read-spec =
     tie.close
     (tie.spec
     unsearched-requires
