@@ -1,5 +1,5 @@
 /* Maps two reads to one target: ACG has four groups, AAA none.
-   rt staticlib exports && cc crates/exports/example.c target/staticlib/libexports.a -o target/example && target/example */
+   rt staticlib jekaumeo && cc crates/jekaumeo/example.c target/staticlib/libjekaumeo.a -o target/example && target/example */
 #include "jekaumeo.h"
 #include <stdio.h>
 

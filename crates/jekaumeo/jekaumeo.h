@@ -1,4 +1,4 @@
-/* The calls of libexports.a and, from "The audit" on, of libaudit_exports.a for C. A slice is a pointer, which is not null, and a number of elements; no slice that is written may overlap another.
+/* The calls of libjekaumeo.a and, from "The audit" on, of libjekaumeo_audit.a for C. A slice is a pointer, which is not null, and a number of elements; no slice that is written may overlap another.
    Refusal numbers and answers: docs/REFERENCE.md, "Exports". */
 #ifndef JEKAUMEO_H
 #define JEKAUMEO_H

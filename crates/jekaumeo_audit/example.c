@@ -1,6 +1,6 @@
 /* Audits a pair over one target of 20 bases, and prints its sheet: R1 lies at 0 on '+', R2 at 4 on '-'.
-   rt staticlib exports && rt staticlib audit_exports &&
-   cc -Icrates/exports crates/audit_exports/example.c target/staticlib/libaudit_exports.a target/staticlib/libexports.a \
+   rt staticlib jekaumeo && rt staticlib jekaumeo_audit &&
+   cc -Icrates/jekaumeo crates/jekaumeo_audit/example.c target/staticlib/libjekaumeo_audit.a target/staticlib/libjekaumeo.a \
       -o target/audit && target/audit */
 #include "jekaumeo.h"
 #include <stdio.h>

@@ -10,7 +10,7 @@ use Rattle.lists.specs.Raised.{raised, raisedAt}
 use Rattle.lists.proofs.Every.{every-append}
 use Rattle.map_places.specs.Place.{Place}
 use Rattle.map_every_start.specs.Entries.{entriesOf}
-use Rattle.index_seeds.specs.Seeds.{placed}
+use Rattle.buffers.specs.Placed.{placed}
 use Rattle.audit_ledger.specs.Booking.{cell, Booked, Books, targetsOf, singleTargets, multiTargets, ledgerWith, countersWith, bookedOne, bookedAll, countable}
 use Rattle.audit_counters.specs.Targets.{targetsIn}
 use Rattle.audit_book_read.specs.Posting.{severalRuns}

@@ -11,9 +11,9 @@ use Rattle.lists.specs.Cut.{window}
 use Rattle.lists.proofs.Cut.{length-window}
 use Rattle.lists.proofs.Same.{same-true}
 use Rattle.promises.proofs.Refusing.{none-first, none-second}
-use Rattle.index_seeds.specs.Seeds.{placed}
-use Rattle.index_seeds.proofs.Storing.{length-placed}
-use Rattle.index_seeds.proofs.Placed.{window-before, placed-front, placed-part, placed-behind}
+use Rattle.buffers.specs.Placed.{placed}
+use Rattle.buffers.proofs.Storing.{length-placed}
+use Rattle.buffers.proofs.Placed.{window-before, placed-front, placed-part, placed-behind}
 use Rattle.map_every_start.specs.Entries.{entryCount, cleared}
 use Rattle.map_every_start.proofs.Going.{length-entries}
 use Rattle.map_answers.proofs.Concluding.{length-cleared}

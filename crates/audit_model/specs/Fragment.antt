@@ -6,7 +6,7 @@ use lib.Dec.{eqb, ltb}
 use Rattle.lists.specs.Same.{same}
 use Rattle.promises.specs.Refusal.{unless, _orElse_, Outcome, outcome, ifPassed}
 use Rattle.catalogue.specs.Catalogue.{Catalogue, suppliedPlaces}
-use Rattle.index_seeds.specs.Seeds.{placed}
+use Rattle.buffers.specs.Placed.{placed}
 use Rattle.index_model.specs.Index.{mappedSequences}
 use Rattle.map_every_start.specs.Entries.{entryCount, cleared}
 use Rattle.map_by_index.specs.Work.{Way}

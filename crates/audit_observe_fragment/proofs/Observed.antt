@@ -10,7 +10,7 @@ use Rattle.lists.specs.Cut.{window, cut}
 use Rattle.lists.proofs.Cases.{clash}
 use Rattle.promises.specs.Refusal.{_orElse_, outcome}
 use Rattle.promises.proofs.Refusing.{first-stands, none-first, none-second, outcome-accepted, outcome-number}
-use Rattle.index_seeds.specs.Seeds.{placed}
+use Rattle.buffers.specs.Placed.{placed}
 use Rattle.map_every_start.specs.Entries.{entryCount, cleared}
 use Rattle.map_by_index.specs.Work.{Way}
 use Rattle.map_answers.specs.Answer.{stateNumber}

@@ -12,7 +12,7 @@ use Rattle.lists.specs.Order.{Ascending}
 use Rattle.lists.specs.Cut.{window}
 use Rattle.lists.proofs.Cases.{by-test, and-true}
 use Rattle.lists.proofs.Member.{getD-∈}
-use Rattle.index_seeds.specs.Seeds.{placed}
+use Rattle.buffers.specs.Placed.{placed}
 use Rattle.map_places.specs.Place.{Place, before, groups}
 use Rattle.map_places.proofs.Placing.{groups-∈, groups-ascending}
 use Rattle.map_every_start.proofs.Going.{length-entries}

@@ -8,7 +8,7 @@ use lib.ListN.{length}
 use borrow.Author.Tests.{le-ltb}
 use Rattle.lists.specs.Cut.{window}
 use Rattle.promises.specs.Refusal.{accepted}
-use Rattle.index_seeds.proofs.Placed.{placed-self}
+use Rattle.buffers.proofs.Placed.{placed-self}
 use Rattle.map_every_start.specs.Entries.{entryCount}
 use Rattle.map_every_start.specs.Searched.{Searchable}
 use Rattle.map_by_index.specs.Steps.{IndexSearchable}

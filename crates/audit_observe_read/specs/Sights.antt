@@ -8,7 +8,7 @@ use Rattle.lists.specs.Cut.{window}
 use Rattle.promises.specs.Refusal.{outcome}
 use Rattle.bases.specs.Read.{letters}
 use Rattle.index_seeds.specs.Key.{SeedLength}
-use Rattle.index_seeds.specs.Seeds.{placed}
+use Rattle.buffers.specs.Placed.{placed}
 use Rattle.index_model.specs.Index.{rankedSequences, Lent, Indexed}
 use Rattle.map_places.specs.Place.{maxRead}
 use Rattle.map_every_start.specs.Entries.{entryCount}

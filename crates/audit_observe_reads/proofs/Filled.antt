@@ -8,9 +8,9 @@ use lib.ListN.{length, drop, replicate, length-replicate}
 use borrow.Author.Tests.{le-ltb}
 use Rattle.lists.specs.Cut.{window}
 use Rattle.lists.proofs.Cut.{length-window}
-use Rattle.index_seeds.specs.Seeds.{placed}
-use Rattle.index_seeds.proofs.Storing.{placed-none, length-placed}
-use Rattle.index_seeds.proofs.Placed.{placed-front, placed-part, placed-behind, placed-self}
+use Rattle.buffers.specs.Placed.{placed}
+use Rattle.buffers.proofs.Storing.{placed-none, length-placed}
+use Rattle.buffers.proofs.Placed.{placed-front, placed-part, placed-behind, placed-self}
 use Rattle.map_places.specs.Place.{groups}
 use Rattle.map_every_start.specs.Entries.{entriesOf, entryCount, cleared}
 use Rattle.map_every_start.proofs.Going.{length-entries}

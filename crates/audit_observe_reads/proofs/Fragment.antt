@@ -13,8 +13,8 @@ use Rattle.lists.proofs.Cut.{length-window}
 use Rattle.lists.proofs.Cases.{by-test}
 use Rattle.promises.specs.Refusal.{accepted, outcome}
 use Rattle.promises.proofs.Refusing.{or-none, outcome-accepted, outcome-number}
-use Rattle.index_seeds.specs.Seeds.{placed}
-use Rattle.index_seeds.proofs.Placed.{placed-behind}
+use Rattle.buffers.specs.Placed.{placed}
+use Rattle.buffers.proofs.Placed.{placed-behind}
 use Rattle.map_every_start.specs.Entries.{entryCount, cleared}
 use Rattle.map_every_start.proofs.Going.{length-entries}
 use Rattle.map_by_index.specs.Work.{Way}

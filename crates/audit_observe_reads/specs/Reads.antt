@@ -5,7 +5,7 @@ use mathlib.Core.List.{List, [], _∷_, map}
 use Prim.Native.Nat.{ℕ, _*_}
 use Rattle.lists.specs.Cut.{window}
 use Rattle.promises.specs.Refusal.{outcome}
-use Rattle.index_seeds.specs.Seeds.{placed}
+use Rattle.buffers.specs.Placed.{placed}
 use Rattle.map_every_start.specs.Entries.{entryCount, cleared}
 use Rattle.map_by_index.specs.Work.{Way}
 use Rattle.map_answers.specs.declared.answer.Mapping.{Mapping}

@@ -11,7 +11,7 @@ use Rattle.catalogue.specs.Catalogue.{Catalogue, targets, mapped}
 use Rattle.catalogue.specs.Ranking.{rankingOutcome}
 use Rattle.catalogue.specs.declared.ranks.Ranking.{Ranking}
 use Rattle.catalogue.specs.declared.ranks.Ranking.the-variants.{Refused, Ranked}
-use Rattle.map_every_start.proofs.Filling.{Clearing}
+use Rattle.buffers.specs.Placed.{placed}
 use Rattle.audit_ledger.specs.Booking.{Counters, emptyCounters, countersOf}
 use Rattle.audit_model.specs.declared.settings.Settings.{Settings}
 use Rattle.audit_model.specs.declared.settings.AuditState.{AuditState}
@@ -60,12 +60,8 @@ module _ (q offset : ℕ) (c : Catalogue) (lent : IndexLent) (s : Settings) (k :
 -- ---- numbers set to zero
 
 -- numbers of which as many are zero as there are
-pub all-zero : (b : List ℕ) (n i : ℕ) (now : List ℕ) → Clearing b n i now → n ≡ length b → n ≤ i → now ≡ replicate (length b) 0
-all-zero b n i now z e h =
-    z .content ∙ ap (λ m. replicate i 0 ++ drop m b) whole ∙ ap (λ l. replicate i 0 ++ l) (drop-length b) ∙ append-nil (replicate i 0) ∙ ap (λ m. replicate m 0) end
+pub all-zero : (b : List ℕ) → placed 0 (replicate (length b) 0) b ≡ replicate (length b) 0
+all-zero b = ap (λ m. replicate (length b) 0 ++ drop m b) whole ∙ ap (λ l. replicate (length b) 0 ++ l) (drop-length b) ∙ append-nil (replicate (length b) 0)
   where
-    end : i ≡ length b
-    end = omega (arith, z .upto)
-
-    whole : 0 + length (replicate {A = ℕ} i 0) ≡ length b
-    whole = omega (arith, length-replicate {A = ℕ} i 0, end)
+    whole : 0 + length (replicate {A = ℕ} (length b) 0) ≡ length b
+    whole = omega (arith, length-replicate {A = ℕ} (length b) 0)

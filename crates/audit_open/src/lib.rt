@@ -17,6 +17,7 @@ use audit_model::settings::AuditInputMode;
 use audit_model::settings::AuditState;
 use audit_model::settings::LastOrdinal;
 use audit_model::settings::Settings;
+use buffers::clear;
 use catalogue::ranks::Ranking;
 
 // A state with nothing booked.
@@ -54,11 +55,7 @@ fn zero_numbers(numbers: &mut [u64])
     ensures { λ _. ⌜ new numbers ≡ replicate (length (old numbers)) 0 ⌝ }
 {
     let n = numbers.len();
-    let mut i: usize = 0;
-    while i < n {
-        numbers[i] = 0;
-        i += 1;
-    }
+    clear(numbers, n);
 }
 
 // Opens an audit with seeds of q bases and qualities from an offset on: refused, or a fresh state with every counter at zero.

@@ -12,7 +12,7 @@ use Rattle.lists.proofs.Sort.{length-sort}
 use Rattle.promises.proofs.Refusing.{none-first, none-second}
 use Rattle.bases.proofs.Turning.{length-reverse-complement}
 use Rattle.catalogue.specs.Catalogue.{Catalogue, Valid, mapped, suppliedPlaces}
-use Rattle.index_seeds.specs.Seeds.{placed}
+use Rattle.buffers.specs.Placed.{placed}
 use Rattle.index_model.specs.Index.{mappedSequences}
 use Rattle.map_places.specs.Place.{Place}
 use Rattle.map_places.proofs.Placing.{groups-∈}

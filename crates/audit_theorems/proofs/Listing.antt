@@ -7,7 +7,7 @@ use Rattle.lists.specs.Cut.{window}
 use Rattle.promises.specs.Refusal.{refused, accepted, ifPassed}
 use Rattle.promises.proofs.Refusing.{outcome-accepted, outcome-number}
 use Rattle.catalogue.specs.Catalogue.{Catalogue, Valid, suppliedPlaces}
-use Rattle.index_seeds.specs.Seeds.{placed}
+use Rattle.buffers.specs.Placed.{placed}
 use Rattle.index_model.specs.Index.{mappedSequences}
 use Rattle.map_every_start.specs.Entries.{entryCount, cleared}
 use Rattle.map_by_index.specs.Work.{Way, workBy}

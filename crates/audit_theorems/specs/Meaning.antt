@@ -12,7 +12,7 @@ use Rattle.lists.specs.Triple.{Triple}
 use Rattle.promises.specs.Refusal.{Outcome, refused, accepted, isRefused}
 use Rattle.bases.specs.Eligibility.{eligibility}
 use Rattle.catalogue.specs.Catalogue.{Catalogue, Target, targets, isMapped, suppliedPlaces}
-use Rattle.index_seeds.specs.Seeds.{placed}
+use Rattle.buffers.specs.Placed.{placed}
 use Rattle.index_model.specs.Index.{mappedSequences}
 use Rattle.map_places.specs.Place.{maxRead}
 use Rattle.map_every_start.specs.Entries.{entriesOf, entryCount, cleared}

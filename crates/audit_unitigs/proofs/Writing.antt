@@ -9,8 +9,8 @@ use lib.Seq.{drop-cons}
 use lib.Dec.{eqb}
 use types.Run.{OneOf, miss}
 use denote.Enum.Declared.{tagOf}
-use Rattle.index_seeds.specs.Seeds.{placed}
-use Rattle.index_seeds.proofs.Storing.{placed-none, length-placed, placed-placed}
+use Rattle.buffers.specs.Placed.{placed}
+use Rattle.buffers.proofs.Storing.{placed-none, length-placed, placed-placed}
 use Rattle.catalogue.specs.Catalogue.{targetsFrom}
 use Rattle.audit_ledger.specs.Booking.{Counters}
 use Rattle.audit_model.specs.declared.sheet.Availability.{Availability}

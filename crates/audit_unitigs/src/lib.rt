@@ -5,7 +5,7 @@ ghost use lib.ListN.{length};
 ghost use Rattle.promises.specs.Slice.{old, new};
 ghost use Rattle.identifiers.specs.Lent.{lentCut};
 ghost use Rattle.catalogue.specs.Catalogue.{lentCatalogue};
-ghost use Rattle.index_seeds.specs.Seeds.{placed};
+ghost use Rattle.buffers.specs.Placed.{placed};
 ghost use Rattle.audit_ledger.specs.Booking.{countersOf, lentCounters};
 ghost use Rattle.audit_model.specs.Sheet.{statusNumber};
 ghost use Rattle.audit_model.specs.Unitigs.{shownNumbers};
@@ -17,11 +17,11 @@ use audit_model::sheet::Sheet;
 use audit_model::sheet::Shown;
 use audit_model::sheet::Status;
 use audit_sheet::showing::target_shown;
+use buffers::write_four;
 use catalogue::bounds::in_bounds;
 use identifiers::compare::Comparison;
 use identifiers::compare::compare_names;
 use identifiers::sequences::sequence_at;
-use map_every_start::entries::write_four;
 
 // The number of a status.
 pub fn status_number(status: Status) -> u64

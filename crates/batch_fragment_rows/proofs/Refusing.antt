@@ -6,8 +6,8 @@ use native.Mathlib.Omega.{arith}
 use native.Mathlib.Numerals.{add-one}
 use lib.ListN.{length}
 use Rattle.promises.specs.Refusal.{refused, accepted}
-use Rattle.index_seeds.specs.Seeds.{placed}
-use Rattle.index_seeds.proofs.Storing.{placed-none, length-placed, placed-placed}
+use Rattle.buffers.specs.Placed.{placed}
+use Rattle.buffers.proofs.Storing.{placed-none, length-placed, placed-placed}
 use Rattle.map_answers.specs.Answer.{Row}
 use Rattle.batch_rows.specs.Rows.{rowNumbers}
 use Rattle.batch_lists.specs.Listed.{refusedRows, rowsIn}

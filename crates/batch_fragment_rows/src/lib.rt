@@ -3,7 +3,7 @@ ghost use mathlib.Core.Path.{_≡_};
 ghost use Prim.Native.Nat.{_+_, _*_, _≤_};
 ghost use lib.ListN.{length};
 ghost use Rattle.promises.specs.Slice.{old, new};
-ghost use Rattle.index_seeds.specs.Seeds.{placed};
+ghost use Rattle.buffers.specs.Placed.{placed};
 ghost use Rattle.audit_model.specs.Calls.{fragmentOutcome};
 ghost use Rattle.batch_lists.specs.Listed.{refusedRows, outcomeRows};
 use audit_model::calls::FragmentAnswer;

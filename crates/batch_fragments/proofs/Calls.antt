@@ -11,7 +11,7 @@ use lib.ListN.{length, getD, take, drop}
 use borrow.Rule.Slice.PartMut.{putMid, post-is}
 use Rattle.lists.specs.Cut.{window, cut}
 use Rattle.lists.proofs.Cut.{length-window}
-use Rattle.index_seeds.specs.Seeds.{placed}
+use Rattle.buffers.specs.Placed.{placed}
 use Rattle.map_by_index.specs.Work.{Way}
 use Rattle.audit_ledger.specs.Booking.{Counters}
 use Rattle.audit_model.specs.declared.calls.FragmentAudit.{FragmentAudit}

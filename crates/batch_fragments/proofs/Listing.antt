@@ -10,7 +10,7 @@ use lib.Seq.{drop-cons, drop-drop, take-length}
 use Rattle.lists.specs.Cut.{window}
 use Rattle.lists.specs.Sum.{sum}
 use Rattle.lists.proofs.Cut.{length-window}
-use Rattle.index_seeds.proofs.Storing.{length-placed}
+use Rattle.buffers.proofs.Storing.{length-placed}
 use Rattle.map_by_index.specs.Work.{Way}
 use Rattle.audit_ledger.specs.Booking.{Counters}
 use Rattle.audit_model.specs.declared.settings.AuditState.{AuditState}

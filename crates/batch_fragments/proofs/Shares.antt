@@ -9,8 +9,8 @@ use lib.Dec.{eqb}
 use lib.Seq.{take-at, drop-at, length-take-le}
 use Rattle.audit_model.specs.Observing.{observe, observedRow, MateRead}
 use Rattle.promises.specs.Refusal.{outcome, ifPassed}
-use Rattle.index_seeds.specs.Seeds.{placed}
-use Rattle.index_seeds.proofs.Storing.{length-placed}
+use Rattle.buffers.specs.Placed.{placed}
+use Rattle.buffers.proofs.Storing.{length-placed}
 use Rattle.map_every_start.specs.Entries.{entryCount, cleared}
 use Rattle.map_by_index.specs.Work.{Way}
 use Rattle.map_answers.specs.Answer.{Row}

@@ -6,7 +6,7 @@ use lib.ListN.{length, drop}
 use Rattle.lists.specs.Sum.{sum}
 use Rattle.promises.specs.Refusal.{outcome, ifPassed}
 use Rattle.identifiers.specs.Lent.{EndsRight}
-use Rattle.index_seeds.specs.Seeds.{placed}
+use Rattle.buffers.specs.Placed.{placed}
 use Rattle.map_every_start.specs.Entries.{entryCount}
 use Rattle.map_by_index.specs.Work.{Way}
 use Rattle.audit_ledger.specs.Booking.{Counters}

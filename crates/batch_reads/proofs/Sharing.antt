@@ -13,9 +13,9 @@ use Rattle.lists.proofs.Cases.{by-test}
 use Rattle.lists.proofs.Cut.{length-window, length-cut}
 use Rattle.promises.specs.Refusal.{Outcome}
 use Rattle.promises.proofs.Refusing.{none-second}
-use Rattle.index_seeds.specs.Seeds.{placed}
-use Rattle.index_seeds.proofs.Storing.{length-placed}
-use Rattle.index_seeds.proofs.Placed.{placed-there, placed-before, placed-behind, placed-self}
+use Rattle.buffers.specs.Placed.{placed}
+use Rattle.buffers.proofs.Storing.{length-placed}
+use Rattle.buffers.proofs.Placed.{placed-there, placed-before, placed-behind, placed-self}
 use Rattle.map_places.specs.Place.{groups}
 use Rattle.map_every_start.specs.Entries.{entryCount}
 use Rattle.map_by_index.specs.Work.{byIndex}

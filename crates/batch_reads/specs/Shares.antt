@@ -5,7 +5,7 @@ use Prim.Native.Nat.{ℕ, _*_, _<_}
 use lib.ListN.{length, getD, drop}
 use Rattle.lists.specs.Cut.{window, cut}
 use Rattle.promises.specs.Refusal.{Outcome}
-use Rattle.index_seeds.specs.Seeds.{placed}
+use Rattle.buffers.specs.Placed.{placed}
 use Rattle.map_places.specs.Place.{groups}
 use Rattle.map_every_start.specs.Entries.{entryCount}
 use Rattle.map_by_index.specs.Work.{work}

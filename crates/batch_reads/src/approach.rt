@@ -4,11 +4,11 @@ ghost use Rattle.bases.specs.Base.{Table};
 ghost use Rattle.index_lookup.specs.Range.{Rising};
 ghost use Rattle.batch_reads.specs.Approach.{Approachable, ReadLent};
 use bases::base::table;
+use buffers::least;
 use identifiers::sequences::sequence_at;
 use index_lookup::approach::expected;
 use index_lookup::approach::nearer;
 use index_seeds::keys::key_at;
-use map_places::looking::least;
 
 // How many reads are approached together.
 const BLOCK: usize = 32;

@@ -5,8 +5,8 @@ use Prim.Native.Nat.{ℕ, _+_, _≤_}
 use native.Mathlib.Omega.{arith}
 use lib.ListN.{length}
 use Rattle.promises.specs.Refusal.{Outcome, refused, accepted}
-use Rattle.index_seeds.specs.Seeds.{placed}
-use Rattle.index_seeds.proofs.Storing.{placed-placed}
+use Rattle.buffers.specs.Placed.{placed}
+use Rattle.buffers.proofs.Storing.{placed-placed}
 use Rattle.map_answers.specs.Answer.{Row}
 use Rattle.batch_rows.specs.Rows.{rowNumbers}
 

@@ -4,13 +4,13 @@ ghost use Prim.Native.Nat.{_+_, _≤_};
 ghost use lib.ListN.{length};
 ghost use Rattle.promises.specs.Refusal.{refused};
 ghost use Rattle.promises.specs.Slice.{old, new};
-ghost use Rattle.index_seeds.specs.Seeds.{placed};
+ghost use Rattle.buffers.specs.Placed.{placed};
 ghost use Rattle.map_answers.specs.Answer.{answerOf};
 ghost use Rattle.batch_rows.specs.Rows.{rowNumbers};
+use buffers::write_four;
 use map_answers::answer::MapAnswer;
 use map_answers::answer::Mapping;
 use map_answers::answer::state_number;
-use map_every_start::entries::write_four;
 
 // Writes the row of a refusal.
 fn write_refused(rows: &mut [u64], at: usize, n: u64)

@@ -9,7 +9,7 @@ use borrow.Author.Tests.{le-leb, lt-leb, eq-eqb, ne-eqb}
 use Rattle.promises.specs.Refusal.{Outcome, numberOf, outcome}
 use Rattle.promises.proofs.Refusing.{number-is}
 use Rattle.catalogue.specs.Catalogue.{Catalogue}
-use Rattle.index_seeds.specs.Seeds.{placed}
+use Rattle.buffers.specs.Placed.{placed}
 use Rattle.map_answers.specs.Answer.{Row}
 use Rattle.c_replies.specs.Replies.{Put}
 use Rattle.audit_ledger.specs.Booking.{Counters}

@@ -8,7 +8,7 @@ use lib.Dec.{eqb, leb}
 use Rattle.promises.specs.Refusal.{IfRight}
 use Rattle.promises.specs.Slice.{Slice, old}
 use Rattle.catalogue.specs.Catalogue.{Catalogue}
-use Rattle.index_seeds.specs.Seeds.{placed}
+use Rattle.buffers.specs.Placed.{placed}
 use Rattle.map_every_start.specs.Entries.{entryCount}
 use Rattle.audit_ledger.specs.Booking.{Counters}
 use Rattle.audit_model.specs.declared.settings.Settings.{Settings}

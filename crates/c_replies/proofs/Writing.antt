@@ -4,8 +4,8 @@ use mathlib.Core.List.{List, [], _∷_}
 use Prim.Native.Nat.{ℕ, _≤_}
 use native.Mathlib.Omega.{arith}
 use lib.ListN.{length, getD, set}
-use Rattle.index_seeds.specs.Seeds.{placed}
-use Rattle.index_seeds.proofs.Storing.{placed-next, placed-one}
+use Rattle.buffers.specs.Placed.{placed}
+use Rattle.buffers.proofs.Storing.{placed-next, placed-one}
 use Rattle.promises.specs.Refusal.{Outcome, refused, accepted, numberOf}
 use Rattle.map_answers.specs.Answer.{Row}
 use Rattle.batch_rows.specs.Rows.{rowNumbers}

@@ -3,7 +3,7 @@ use mathlib.Core.Path.{_≡_}
 use mathlib.Core.List.{List, [], _∷_}
 use Prim.Native.Nat.{ℕ}
 use Rattle.promises.specs.Refusal.{Outcome, refused, accepted, numberOf}
-use Rattle.index_seeds.specs.Seeds.{placed}
+use Rattle.buffers.specs.Placed.{placed}
 use Rattle.index_plan.specs.declared.Counts.{Counts}
 
 -- ---- answers as numbers; all but the first are zero where the call is refused

@@ -6,8 +6,8 @@ use Prim.Native.Nat.{ℕ, zero, suc, _+_, _≤_}
 use native.Mathlib.Omega.{arith}
 use lib.ListN.{length, getD, set, replicate, length-append}
 use Rattle.lists.specs.Cut.{window}
-use Rattle.index_seeds.specs.Seeds.{placed}
-use Rattle.index_seeds.proofs.Storing.{placed-one, placed-placed}
+use Rattle.buffers.specs.Placed.{placed}
+use Rattle.buffers.proofs.Storing.{placed-one, placed-placed}
 use Rattle.c_replies.specs.Replies.{Put}
 use Rattle.audit_model.specs.declared.settings.AuditInputMode.{AuditInputMode}
 use Rattle.audit_model.specs.declared.calls.CallAnswer.the-variants as calls

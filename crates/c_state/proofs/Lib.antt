@@ -1,4 +1,3 @@
-pub mod Copying
 pub mod Testing
 pub mod Writing
 pub mod Again

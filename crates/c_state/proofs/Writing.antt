@@ -10,8 +10,8 @@ use types.Run.{OneOf, miss}
 use denote.Enum.Declared.{tagOf}
 use Rattle.lists.specs.Cut.{window}
 use Rattle.lists.proofs.Cut.{length-window}
-use Rattle.index_seeds.specs.Seeds.{placed}
-use Rattle.index_seeds.proofs.Storing.{placed-next, placed-one, placed-placed}
+use Rattle.buffers.specs.Placed.{placed}
+use Rattle.buffers.proofs.Storing.{placed-next, placed-one, placed-placed}
 use Rattle.audit_ledger.specs.declared.Ledger.{Ledger}
 use Rattle.audit_model.specs.declared.settings.LastOrdinal.{LastOrdinal}
 use Rattle.audit_model.specs.declared.settings.LastOrdinal.the-variants as ordinals

@@ -5,7 +5,7 @@ ghost use Prim.Native.Nat.{_+_, _≤_, _<_};
 ghost use lib.ListN.{length};
 ghost use Rattle.lists.specs.Cut.{window};
 ghost use Rattle.promises.specs.Slice.{old, new};
-ghost use Rattle.index_seeds.specs.Seeds.{placed};
+ghost use Rattle.buffers.specs.Placed.{placed};
 ghost use Rattle.c_state.specs.Layout.{stateLength, flagNumber, modeNumber, lastNumbers, ledgerNumbers, stateNumbers, lastOf, stateIn, isState};
 use audit_codes::mode_of;
 use audit_ledger::Ledger;
@@ -13,6 +13,7 @@ use audit_model::settings::AuditInputMode;
 use audit_model::settings::AuditState;
 use audit_model::settings::LastOrdinal;
 use audit_model::settings::Settings;
+use buffers::copy_numbers;
 
 pub const STATE_LENGTH: usize = 32;
 
@@ -30,19 +31,6 @@ pub fn mode_number(mode: AuditInputMode) -> u64
     match mode {
         AuditInputMode::SingleEnd => 0,
         AuditInputMode::PairedEnd => 1,
-    }
-}
-
-// Copies numbers to a place.
-pub fn copy_numbers(to: &mut [u64], at: usize, numbers: &[u64])
-    requires { ⌜ at + length (now numbers) ≤ length (now to) ⌝ }
-    ensures { λ _. ⌜ new to ≡ placed at (old numbers) (old to) ⌝ }
-{
-    let n = numbers.len();
-    let mut i: usize = 0;
-    while i < n {
-        to[at + i] = numbers[i];
-        i += 1;
     }
 }
 

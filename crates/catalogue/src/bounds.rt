@@ -7,6 +7,7 @@ ghost use Rattle.promises.specs.Slice.{old};
 ghost use Rattle.bases.specs.Base.{isCapital};
 ghost use Rattle.identifiers.specs.Lent.{lentCut, EndsRight};
 ghost use Rattle.catalogue.specs.Catalogue.{lentCatalogue, lengthsWithin, marksRight, inBounds, properSequence};
+use buffers::least;
 
 const MAX_TARGETS: usize = 4096;
 
@@ -64,12 +65,6 @@ fn marks_right(marks: &[u8]) -> bool
         i += 1;
     }
     true
-}
-
-fn least(a: usize, b: usize) -> usize
-    ensures { λ r. ⌜ r ≡ min a b ⌝ }
-{
-    if a < b { a } else { b }
 }
 
 // Whether a catalogue is within its bounds: refusal 2 where it is not.

@@ -13,8 +13,9 @@ use Rattle.catalogue.specs.Ranking.{rankingOutcome}
 use Rattle.catalogue.specs.declared.ranks.Ranking.{Ranking}
 use Rattle.catalogue.specs.declared.ranks.Ranking.the-variants.{Refused, Ranked}
 use Rattle.index_seeds.specs.Key.{SeedLength}
-use Rattle.index_seeds.specs.Seeds.{keysOf, ranksOf, positionsOf, placed, Stored, Room}
-use Rattle.index_seeds.proofs.Placed.{placed-there}
+use Rattle.buffers.specs.Placed.{placed}
+use Rattle.index_seeds.specs.Seeds.{keysOf, ranksOf, positionsOf, Stored, Room}
+use Rattle.buffers.proofs.Placed.{placed-there}
 use Rattle.index_model.specs.Index.{rankedSequences, allSeeds, indexOf, index, Lent}
 use Rattle.index_model.proofs.Indexing.{length-index}
 use Rattle.index_plan.specs.Answers.{PlanRanked}

@@ -8,7 +8,7 @@ use Rattle.promises.specs.Refusal.{Outcome, refused, accepted, ifPassed}
 use Rattle.promises.proofs.Refusing.{outcome-accepted, outcome-number}
 use Rattle.catalogue.specs.Catalogue.{Catalogue, names, suppliedPlaces}
 use Rattle.index_model.specs.Index.{mappedSequences}
-use Rattle.index_seeds.specs.Seeds.{placed}
+use Rattle.buffers.specs.Placed.{placed}
 use Rattle.map_by_index.specs.Work.{Way}
 use Rattle.lists.specs.Cut.{window}
 use Rattle.map_every_start.specs.Entries.{entryCount, cleared}

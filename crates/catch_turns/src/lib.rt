@@ -4,6 +4,7 @@ ghost use Prim.Native.Nat.{_-_, _≤_, _<_, min};
 ghost use lib.ListN.{length};
 ghost use Rattle.promises.specs.Slice.{old, new};
 ghost use Rattle.catch_turns.specs.Turns.{AtHand, Kept, Refilled, Steps, Turned};
+use buffers::least;
 use catch_progress::Progress;
 
 // How many bytes were asked for, how many are at hand, and whether the input has ended or could not be read.
@@ -36,13 +37,6 @@ fn shift(buffer: &mut [u8], from: usize, end: usize) -> usize
         i += 1;
     }
     n
-}
-
-// The lesser of two numbers.
-fn least(a: usize, b: usize) -> usize
-    ensures { λ r. ⌜ r ≡ min a b ⌝ }
-{
-    if a < b { a } else { b }
 }
 
 // A piece has one byte at least.

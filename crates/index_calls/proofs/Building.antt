@@ -10,7 +10,8 @@ use Rattle.promises.specs.Refusal.{unless, _orElse_, accepted}
 use Rattle.catalogue.specs.Catalogue.{Catalogue}
 use Rattle.catalogue.specs.declared.ranks.Ranking.{Ranking}
 use Rattle.catalogue.specs.declared.ranks.Ranking.the-variants.{Refused, Ranked}
-use Rattle.index_seeds.specs.Seeds.{keysOf, ranksOf, positionsOf, placed, Stored}
+use Rattle.buffers.specs.Placed.{placed}
+use Rattle.index_seeds.specs.Seeds.{keysOf, ranksOf, positionsOf, Stored}
 use Rattle.index_model.specs.Index.{allSeeds, index, indexOf, rankedSequences, buildRefusal}
 use Rattle.index_plan.specs.Answers.{PlanRanked}
 use Rattle.index_calls.specs.Answers.{builtOutcome, entries, Builds, BuiltAs, BuiltFrom}

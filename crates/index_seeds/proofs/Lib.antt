@@ -2,4 +2,3 @@ pub mod Windows
 pub mod Keying
 pub mod Capitals
 pub mod Storing
-pub mod Placed

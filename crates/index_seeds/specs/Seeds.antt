@@ -1,8 +1,9 @@
 -- The seeds of a sequence as postings, and postings stored in columns (REFERENCE.md, "Postings").
 use mathlib.Core.Path.{_≡_}
-use mathlib.Core.List.{List, [], _∷_, _++_, map}
+use mathlib.Core.List.{List, [], _∷_, map}
 use Prim.Native.Nat.{ℕ, zero, suc, _+_, _≤_}
-use lib.ListN.{length, take, drop}
+use lib.ListN.{length}
+use Rattle.buffers.specs.Placed.{placed}
 use Rattle.index_columns.specs.Posting.{Posting, posting}
 use Rattle.index_seeds.specs.Window.{windowOf, starts}
 use Rattle.index_seeds.specs.Key.{keyOf}
@@ -30,10 +31,6 @@ ranksOf ps = map (λ (p : Posting). p .rank) ps
 
 abbrev pub positionsOf : List Posting → List ℕ
 positionsOf ps = map (λ (p : Posting). p .position) ps
-
--- a buffer with a list in the place of what stood from `at` on
-abbrev pub placed : ℕ → List ℕ → List ℕ → List ℕ
-placed at xs buffer = take at buffer ++ xs ++ drop (at + length xs) buffer
 
 -- columns as before, but with postings from `at` on
 pub record Stored (at : ℕ) (ps : List Posting) (ks rs os ks′ rs′ os′ : List ℕ) : Type 0 where

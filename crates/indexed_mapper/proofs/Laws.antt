@@ -18,7 +18,7 @@ use Rattle.bases.specs.Read.{reverseComplement}
 use Rattle.bases.proofs.Bytes.{complement-twice}
 use Rattle.bases.proofs.Turning.{length-reverse-complement}
 use Rattle.catalogue.specs.Catalogue.{Catalogue, Valid, suppliedPlaces}
-use Rattle.index_seeds.specs.Seeds.{placed}
+use Rattle.buffers.specs.Placed.{placed}
 use Rattle.index_model.specs.Index.{mappedSequences, planRefusal, indexRefusal}
 use Rattle.index_plan.proofs.Planning.{plan-right}
 use Rattle.map_places.specs.Place.{Place, groups}

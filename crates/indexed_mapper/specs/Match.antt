@@ -12,7 +12,7 @@ use Rattle.lists.specs.Triple.{Triple, lexicographic}
 use Rattle.bases.specs.Read.{folded, oriented}
 use Rattle.catalogue.specs.Catalogue.{Catalogue, Target, targets, isMapped, suppliedPlaces}
 use Rattle.index_seeds.specs.Window.{windowOf, FitsIn}
-use Rattle.index_seeds.specs.Seeds.{placed}
+use Rattle.buffers.specs.Placed.{placed}
 use Rattle.map_every_start.specs.Entries.{entryOf, cleared}
 use Rattle.map_answers.specs.Answer.{Row, stateOf}
 

@@ -7,7 +7,8 @@ use borrow.Author.Tests.{le-leb, lt-leb}
 use Rattle.promises.specs.Refusal.{Outcome, numberOf, outcome}
 use Rattle.promises.proofs.Refusing.{number-is}
 use Rattle.catalogue.specs.Catalogue.{Catalogue}
-use Rattle.index_seeds.specs.Seeds.{keysOf, ranksOf, positionsOf, placed}
+use Rattle.buffers.specs.Placed.{placed}
+use Rattle.index_seeds.specs.Seeds.{keysOf, ranksOf, positionsOf}
 use Rattle.index_model.specs.Index.{index, planRefusal, buildRefusal}
 use Rattle.index_plan.specs.Answers.{planOutcome, planned}
 use Rattle.index_calls.specs.Answers.{builtOutcome, entries, leftIn, BuiltAs}

@@ -6,7 +6,8 @@ use lib.ListN.{length}
 use lib.Dec.{leb}
 use Rattle.promises.specs.Refusal.{IfRight, outcome}
 use Rattle.catalogue.specs.Catalogue.{Catalogue}
-use Rattle.index_seeds.specs.Seeds.{keysOf, ranksOf, positionsOf, placed}
+use Rattle.buffers.specs.Placed.{placed}
+use Rattle.index_seeds.specs.Seeds.{keysOf, ranksOf, positionsOf}
 use Rattle.index_model.specs.Index.{index, planRefusal, buildRefusal}
 use Rattle.index_plan.specs.Answers.{planned}
 use Rattle.index_calls.specs.Answers.{entries, leftIn}

@@ -6,8 +6,8 @@ use native.Mathlib.Omega.{arith}
 use lib.ListN.{length, drop, replicate, length-replicate}
 use lib.Seq.{drop-at, drop-drop}
 use borrow.Author.Tests.{lt-ltb, le-ltb}
-use Rattle.index_seeds.specs.Seeds.{placed}
-use Rattle.index_seeds.proofs.Storing.{length-placed}
+use Rattle.buffers.specs.Placed.{placed}
+use Rattle.buffers.proofs.Storing.{length-placed}
 use Rattle.map_every_start.specs.Entries.{entryCount, cleared}
 use Rattle.map_answers.specs.Answer.{stateNumber, stateOf, Concluded}
 use Rattle.map_by_index.specs.declared.work.MappingWork.{MappingWork}

@@ -6,7 +6,7 @@ use Prim.Native.Nat.{ℕ, zero, suc}
 use lib.ListN.{length}
 use lib.Dec.{eqb, ltb}
 use Rattle.promises.specs.Refusal.{unless, Outcome, refused, accepted, outcome, ifPassed}
-use Rattle.index_seeds.specs.Seeds.{placed}
+use Rattle.buffers.specs.Placed.{placed}
 use Rattle.map_places.specs.Place.{Place, groups}
 use Rattle.map_every_start.specs.Entries.{entriesOf, entryCount, cleared}
 use Rattle.map_answers.specs.declared.answer.ReadState.{ReadState}

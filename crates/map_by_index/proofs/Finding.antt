@@ -14,7 +14,7 @@ use Rattle.lists.specs.Limit.{goOn, stopped}
 use Rattle.lists.proofs.Cases.{by-test, clash}
 use Rattle.lists.proofs.Filter.{filter-append, length-filter}
 use Rattle.lists.proofs.Limit.{filter-stopped, length-stopped, stopped-append}
-use Rattle.index_seeds.specs.Seeds.{placed}
+use Rattle.buffers.specs.Placed.{placed}
 use Rattle.bases.specs.Read.{oriented}
 use Rattle.index_model.specs.Index.{indexOf}
 use Rattle.map_places.specs.Place.{Place, place, before, matches, groups}

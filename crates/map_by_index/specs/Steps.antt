@@ -3,7 +3,7 @@ use mathlib.Core.Path.{_≡_}
 use mathlib.Core.List.{List}
 use Prim.Native.Nat.{ℕ, _+_, _-_, _≤_}
 use lib.ListN.{length, take}
-use Rattle.index_seeds.specs.Seeds.{placed}
+use Rattle.buffers.specs.Placed.{placed}
 use Rattle.index_seeds.specs.Key.{SeedLength}
 use Rattle.index_model.specs.Index.{rankedSequences, Lent, Indexed}
 use Rattle.map_places.specs.Place.{groups, maxRead}

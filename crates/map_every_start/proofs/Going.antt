@@ -10,8 +10,8 @@ use Rattle.lists.specs.Filter.{filter}
 use Rattle.lists.specs.Limit.{stopped}
 use Rattle.lists.proofs.Filter.{filter-append}
 use Rattle.lists.proofs.Limit.{filter-stopped, length-stopped, stopped-whole, stopped-append, stopped-front}
-use Rattle.index_seeds.specs.Seeds.{placed}
-use Rattle.index_seeds.proofs.Storing.{placed-none, length-placed, placed-placed}
+use Rattle.buffers.specs.Placed.{placed}
+use Rattle.buffers.proofs.Storing.{placed-none, length-placed, placed-placed}
 use Rattle.map_places.specs.Place.{Place, matches}
 use Rattle.map_every_start.specs.Entries.{entryOf, entriesOf}
 use Rattle.map_every_start.specs.Searched.{Going, looked, Searched}

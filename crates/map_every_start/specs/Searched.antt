@@ -6,7 +6,7 @@ use Prim.Native.Nat.{ℕ, _+_, _-_, _*_, _≤_}
 use lib.ListN.{length, getD, take}
 use Rattle.lists.specs.Filter.{filter}
 use Rattle.lists.specs.Limit.{stopped}
-use Rattle.index_seeds.specs.Seeds.{placed}
+use Rattle.buffers.specs.Placed.{placed}
 use Rattle.index_seeds.specs.Window.{starts}
 use Rattle.index_model.specs.Index.{rankedSequences, Lent}
 use Rattle.bases.specs.Read.{letters}

@@ -4,19 +4,10 @@ ghost use mathlib.Core.List.{_∷_, []};
 ghost use Prim.Native.Nat.{_+_, _*_, _≤_};
 ghost use lib.ListN.{length};
 ghost use Rattle.promises.specs.Slice.{old, new};
-ghost use Rattle.index_seeds.specs.Seeds.{placed};
+ghost use Rattle.buffers.specs.Placed.{placed};
 ghost use Rattle.map_every_start.specs.Entries.{entryOf, cleared};
-
-// Writes four numbers from a place on.
-pub fn write_four(buffer: &mut [u64], at: usize, a: u64, b: u64, c: u64, d: u64)
-    requires { ⌜ at + 4 ≤ length (now buffer) ⌝ }
-    ensures { λ _. ⌜ new buffer ≡ placed at (a ∷ b ∷ c ∷ d ∷ []) (old buffer) ⌝ }
-{
-    buffer[at] = a;
-    buffer[at + 1] = b;
-    buffer[at + 2] = c;
-    buffer[at + 3] = d;
-}
+use buffers::clear;
+use buffers::write_four;
 
 // Writes entry k.
 pub fn write_entry(
@@ -45,9 +36,5 @@ pub fn clear_entries(entries: &mut [u64])
     ensures { λ _. ⌜ new entries ≡ cleared (old entries) ⌝ }
 {
     let n = entries.len() / 4 * 4;
-    let mut i = 0;
-    while i < n {
-        entries[i] = 0;
-        i += 1;
-    }
+    clear(entries, n);
 }

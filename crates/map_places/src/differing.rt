@@ -2,8 +2,8 @@
 ghost use Rattle.promises.specs.Slice.{old};
 ghost use Rattle.map_places.specs.Place.{Laid, SaidToDiffer};
 use crate::agreeing::agreement;
-use crate::looking::least;
 use bases::strand::oriented_agrees;
+use buffers::least;
 
 // How many bases are looked at for a first difference.
 const MOST_BASES: usize = 64;

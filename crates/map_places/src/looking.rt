@@ -1,15 +1,8 @@
 // How far bases are looked at for a hint, and how often.
 ghost use mathlib.Core.Path.{_≡_};
 ghost use mathlib.Core.Bool.{_||_};
-ghost use Prim.Native.Nat.{_%_, _≤_};
+ghost use Prim.Native.Nat.{_%_};
 ghost use lib.Dec.{ltb, eqb};
-
-// The lesser of two bounds.
-pub fn least(a: usize, b: usize) -> usize
-    ensures { λ r. ⌜ (r ≤ a) × (r ≤ b) ⌝ }
-{
-    if a < b { a } else { b }
-}
 
 // Whether one looks at a place: where the last look showed something, and else at one place in eight, so that looks that show
 // nothing cost little.

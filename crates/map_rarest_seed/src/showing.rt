@@ -3,11 +3,11 @@ ghost use Rattle.promises.specs.Slice.{old};
 ghost use Rattle.bases.specs.Read.{oriented};
 ghost use Rattle.index_model.specs.Index.{lentSequences};
 ghost use Rattle.map_rarest_seed.specs.Shown.{PostingLent, Behind, ShowLent, Shown};
+use buffers::least;
 use index_lookup::read::posting_position;
 use index_lookup::read::posting_rank;
 use index_model::ranked::ranked_sequence;
 use map_places::agreeing::agreement;
-use map_places::looking::least;
 
 // The most postings, and the most bases behind each, that are looked at: no more than a lookup costs.
 const MOST_POSTINGS: usize = 32;

@@ -11,8 +11,8 @@ use borrow.Rule.Slice.PartMut.{putMid}
 use Rattle.lists.specs.Cut.{window}
 use Rattle.lists.proofs.Cases.{by-test}
 use Rattle.lists.proofs.Cut.{length-window}
-use Rattle.index_seeds.specs.Seeds.{placed}
-use Rattle.index_seeds.proofs.Storing.{length-placed}
+use Rattle.buffers.specs.Placed.{placed}
+use Rattle.buffers.proofs.Storing.{length-placed}
 use Rattle.map_places.specs.Place.{Place, groups}
 use Rattle.map_every_start.specs.Entries.{entriesOf, entryCount, cleared}
 use Rattle.map_every_start.proofs.Going.{length-entries}

@@ -14,8 +14,8 @@ use Rattle.lists.specs.Limit.{stopped}
 use Rattle.lists.proofs.Cases.{by-test}
 use Rattle.lists.proofs.Limit.{filter-stopped, stopped-whole}
 use Rattle.promises.specs.Refusal.{refused, accepted}
-use Rattle.index_seeds.specs.Seeds.{placed}
-use Rattle.index_seeds.proofs.Storing.{placed-none}
+use Rattle.buffers.specs.Placed.{placed}
+use Rattle.buffers.proofs.Storing.{placed-none}
 use Rattle.map_places.specs.Place.{Place, places, matches, groups}
 use Rattle.map_candidates.specs.Search.{comparable}
 use Rattle.map_candidates.proofs.Candidates.{comparable-groups}

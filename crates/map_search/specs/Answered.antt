@@ -5,7 +5,7 @@ use Prim.Native.Nat.{ℕ}
 use lib.ListN.{length}
 use Rattle.lists.specs.Cut.{window}
 use Rattle.promises.specs.Refusal.{Outcome}
-use Rattle.index_seeds.specs.Seeds.{placed}
+use Rattle.buffers.specs.Placed.{placed}
 use Rattle.map_places.specs.Place.{groups}
 use Rattle.map_every_start.specs.Entries.{entryCount}
 use Rattle.map_by_index.specs.Work.{Way, workBy}

@@ -1,53 +1,18 @@
--- `audit_open::zero_numbers` meets its contract. The invariant: `Clearing`, the first numbers are zero.
-use native.Mathlib.Omega.{arith}
+-- `audit_open::zero_numbers` meets its contract: as many numbers are set to zero as there are.
+use mathlib.Core.Path.{_∙_}
 use borrow.Author.Needs.{needs}
-use Prim.Native.Nat.{_-_}
-use Rattle.map_every_start.proofs.Filling.{Clearing, clearing-none, clearing-length, clearing-next}
 use Rattle.audit_open.proofs.Starting.{all-zero}
 use Rattle.audit_open.proofs.zero_numbers.Statement.{statement}
 use Rattle.audit_open.proofs.zero_numbers.Tie as tie
 
-abbrev Inv-loop : tie.InvT-loop
-Inv-loop numbers₀ n i₀ numbers i = Clearing numbers₀ n i numbers
+clear-requires : tie.Need-clear-requires
+clear-requires c κs = search needs
 
-abbrev μ-loop : tie.MeasureT-loop
-μ-loop numbers₀ n i₀ numbers i = n - i
+same-length : tie.Need-same-length
+same-length c = search needs
 
-loop-holds : tie.Need-loop-holds Inv-loop μ-loop
-loop-holds c = clearing-none (c .args .numbers .now) _ (omega arith)
-
-mul-numbers : tie.Need-mul-numbers Inv-loop μ-loop
-mul-numbers c = search needs
-
-slice-write-numbers : tie.Need-slice-write-numbers Inv-loop μ-loop
-slice-write-numbers c = omega (arith, c .before .loop .inv .inside, clearing-length _ _ _ _ (c .before .loop .inv), c .loop-test .taken)
-
-add-i : tie.Need-add-i Inv-loop μ-loop
-add-i c = search needs
-
-loop-less : tie.Need-loop-less Inv-loop μ-loop
-loop-less c = search needs
-
-loop-again : tie.Need-loop-again Inv-loop μ-loop
-loop-again c = clearing-next _ _ _ _ (c .before .loop .inv) (c .loop-test .taken)
-
-same-length : tie.Need-same-length Inv-loop μ-loop
-same-length c = clearing-length _ _ _ _ (c .before .loop .inv)
-
-returns : tie.Need-returns Inv-loop μ-loop
-returns c = all-zero _ _ _ _ (c .before .loop .inv) (omega arith) (c .loop-test .left)
+returns : tie.Need-returns
+returns c = c .clear .ensures ∙ all-zero _
 
 pub zero-numbers-spec : {M : Type 1} → statement M
-zero-numbers-spec =
-    tie.close
-    (tie.spec
-    Inv-loop
-    μ-loop
-    loop-holds
-    mul-numbers
-    slice-write-numbers
-    add-i
-    loop-less
-    loop-again
-    same-length
-    returns)
+zero-numbers-spec = tie.close (tie.spec clear-requires same-length returns)

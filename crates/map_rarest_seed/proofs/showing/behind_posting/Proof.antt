@@ -24,10 +24,10 @@ add-agreement : tie.Need-add-agreement
 add-agreement c = search needs
 
 agreement-requires : tie.Need-agreement-requires
-agreement-requires c κs = let s = c .before .before .before .before .before .before in let a = s .args in reach-behind (a .bases .now) (a .ends .now) (a .ranked .now) (a .rank) (a .position) (a .q) (a .read .now) (a .o) (a .most) (s .pre) _ (c .before .ranked-sequence .ensures) _ (c .least .ensures .0) (c .least .ensures .1)
+agreement-requires c κs = let s = c .before .before .before .before .before .before in let a = s .args in reach-behind (a .bases .now) (a .ends .now) (a .ranked .now) (a .rank) (a .position) (a .q) (a .read .now) (a .o) (a .most) (s .pre) _ (c .before .ranked-sequence .ensures) _ (omega (arith, c .least .ensures)) (omega (arith, c .least .ensures))
 
 returns : tie.Need-returns
-returns c = let s = c .before .before .before .before .before .before .before in let a = s .args in behind-told (a .bases .now) (a .ends .now) (a .ranked .now) (a .rank) (a .position) (a .q) (a .read .now) (a .o) (a .most) (s .pre) _ (c .before .before .ranked-sequence .ensures) _ (c .before .least .ensures .0) (c .before .least .ensures .1) _ _ (c .agreement .ensures)
+returns c = let s = c .before .before .before .before .before .before .before in let a = s .args in behind-told (a .bases .now) (a .ends .now) (a .ranked .now) (a .rank) (a .position) (a .q) (a .read .now) (a .o) (a .most) (s .pre) _ (c .before .before .ranked-sequence .ensures) _ (omega (arith, c .before .least .ensures)) (omega (arith, c .before .least .ensures)) _ _ (c .agreement .ensures)
 
 pub behind-posting-spec : {M : Type 1} → statement M
 behind-posting-spec =

@@ -1,15 +1,14 @@
--- Numbers written one after the other.
+-- Four numbers, and zeros, written one after the other.
 use mathlib.Core.Path.{_≡_, refl, ap, _∙_}
 use mathlib.Core.List.{List, [], _∷_, _++_}
-use Prim.Native.Nat.{ℕ, zero, suc, _+_, _*_, _/_, _<_, _≤_}
+use Prim.Native.Nat.{ℕ, zero, suc, _+_, _<_, _≤_}
 use native.Mathlib.Omega.{arith}
 use lib.ListN.{length, set, replicate, length-replicate}
-use Rattle.index_seeds.specs.Seeds.{placed}
-use Rattle.index_seeds.proofs.Storing.{placed-none, length-placed, placed-next, placed-one}
-use Rattle.map_every_start.specs.Entries.{entryOf, entryCount, cleared}
+use Rattle.buffers.specs.Placed.{placed}
+use Rattle.buffers.proofs.Storing.{placed-none, length-placed, placed-next, placed-one}
 
-pub entry-put : (at : ℕ) (b : List ℕ) (t s e d : ℕ) → at + 4 ≤ length b → set (set (set (set b at t) (at + 1) s) (at + 2) e) (at + 3) d ≡ placed at (entryOf t s e d) b
-entry-put at b t s e d h =
+pub four-put : (at : ℕ) (b : List ℕ) (t s e d : ℕ) → at + 4 ≤ length b → set (set (set (set b at t) (at + 1) s) (at + 2) e) (at + 3) d ≡ placed at (t ∷ s ∷ e ∷ d ∷ []) b
+four-put at b t s e d h =
     let one = placed-one at t b (omega arith) in
     let two = placed-next at (t ∷ []) b _ s (at + 1) (omega arith) one (omega arith) in
     let three = placed-next at (t ∷ s ∷ []) b _ e (at + 2) (omega arith) two (omega arith) in
@@ -39,8 +38,5 @@ module _ (b : List ℕ) (n : ℕ) where
         one : suc i ≡ i + 1
         one = omega arith
 
-    pub clearing-all : n ≡ length b / 4 * 4 → n ≤ i → now ≡ cleared b
-    clearing-all e h = c .content ∙ ap (λ k. placed 0 (replicate k 0) b) all
-      where
-        all : i ≡ 4 * entryCount b
-        all = omega (arith, c .upto)
+    pub clearing-all : n ≤ i → now ≡ placed 0 (replicate n 0) b
+    clearing-all h = let all : i ≡ n = omega (arith, c .upto) in c .content ∙ ap (λ k. placed 0 (replicate k 0) b) all

@@ -8,7 +8,7 @@ use lib.Seq.{length-take-le, take-at, drop-at, drop-drop, take-take, take-append
 use Rattle.lists.specs.Cut.{window}
 use Rattle.lists.proofs.Cut.{length-window}
 use Rattle.lists.proofs.Places.{drop-take}
-use Rattle.index_seeds.specs.Seeds.{placed}
+use Rattle.buffers.specs.Placed.{placed}
 
 -- a window is told by what stands before its end
 pub window-before : (b b′ : List ℕ) (start n k : ℕ) → start + n ≤ k → take k b ≡ take k b′ → window b start n ≡ window b′ start n

@@ -6,8 +6,8 @@ use native.Mathlib.Numerals.{add-one}
 use native.Mathlib.Omega.{arith}
 use lib.ListN.{length, getD, take, set, length-set}
 use lib.Seq.{take-suc, take-length, length-take-le}
-use Rattle.index_seeds.specs.Seeds.{placed}
-use Rattle.index_seeds.proofs.Storing.{placed-none, placed-next}
+use Rattle.buffers.specs.Placed.{placed}
+use Rattle.buffers.proofs.Storing.{placed-none, placed-next}
 
 -- the first `i` numbers of a list stand in a buffer from `at` on
 pub record Copied (to₀ : List ℕ) (at : ℕ) (numbers to : List ℕ) (i : ℕ) : Type 0 where

@@ -1,11 +1,11 @@
--- `map_every_start::entries::write_four` meets its contract.
+-- `buffers::write_four` meets its contract.
 use Prim.Native.Nat.{_+_}
 use lib.ListN.{set, length-set}
 use native.Mathlib.Omega.{arith}
-use Rattle.map_every_start.proofs.Filling.{entry-put}
+use Rattle.buffers.proofs.Filling.{four-put}
 use borrow.Author.Needs.{needs}
-use Rattle.map_every_start.proofs.entries.write_four.Statement.{statement}
-use Rattle.map_every_start.proofs.entries.write_four.Tie as tie
+use Rattle.buffers.proofs.write_four.Statement.{statement}
+use Rattle.buffers.proofs.write_four.Tie as tie
 
 mul-buffer : tie.Need-mul-buffer
 mul-buffer c = search needs
@@ -55,7 +55,7 @@ same-length : tie.Need-same-length
 same-length c = search needs
 
 returns : tie.Need-returns
-returns c = let a = c .args in entry-put (a .at) (a .buffer .now) (a .a) (a .b) (a .c) (a .d) (omega (arith, c .pre))
+returns c = let a = c .args in four-put (a .at) (a .buffer .now) (a .a) (a .b) (a .c) (a .d) (omega (arith, c .pre))
 
 pub write-four-spec : {M : Type 1} → statement M
 write-four-spec =

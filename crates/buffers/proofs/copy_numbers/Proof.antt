@@ -1,9 +1,9 @@
--- `c_state::copy_numbers` meets its contract. The loop's invariant: the numbers passed stand in the buffer.
+-- `buffers::copy_numbers` meets its contract. The loop's invariant: the numbers passed stand in the buffer.
 use Prim.Native.Nat.{_-_}
 use native.Mathlib.Omega.{arith}
-use Rattle.c_state.proofs.Copying.{Copied, copied-none, copied-more, copied-all}
-use Rattle.c_state.proofs.copy_numbers.Statement.{statement}
-use Rattle.c_state.proofs.copy_numbers.Tie as tie
+use Rattle.buffers.proofs.Copying.{Copied, copied-none, copied-more, copied-all}
+use Rattle.buffers.proofs.copy_numbers.Statement.{statement}
+use Rattle.buffers.proofs.copy_numbers.Tie as tie
 
 abbrev Inv-loop : tie.InvT-loop
 Inv-loop to₀ at numbers n i₀ to i = Copied to₀ at numbers to i

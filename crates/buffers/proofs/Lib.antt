@@ -1,0 +1,4 @@
+pub mod Storing
+pub mod Placed
+mod Copying
+mod Filling
