@@ -10,6 +10,7 @@ use audit_book_fragment::ReadTally;
 use audit_book_fragment::post_fragment;
 use audit_book_fragment::raise_fragment;
 use audit_book_read::Posted;
+use audit_codes::role_number;
 use audit_ledger::Ledger;
 use audit_model::calls::FragmentAnswer;
 use audit_model::settings::AuditState;
@@ -17,17 +18,6 @@ use audit_model::settings::LastOrdinal;
 use audit_model::settings::MateRole;
 use map_answers::answer::Mapping;
 use map_answers::answer::state_number;
-
-// The number of a role.
-pub fn role_number(role: MateRole) -> usize
-    ensures { λ r. ⌜ r ≡ roleNumber role ⌝ }
-{
-    match role {
-        MateRole::S => 0,
-        MateRole::R1 => 1,
-        MateRole::R2 => 2,
-    }
-}
 
 // A read as it is booked.
 fn tally_of(role: MateRole, mapping: Mapping) -> ReadTally

@@ -3,7 +3,7 @@ ghost use mathlib.Core.Path.{_≡_};
 ghost use Rattle.audit_model.specs.Settings.{roleNumber};
 ghost use Rattle.audit_model.specs.Fragment.{inOrder};
 ghost use Rattle.audit_roles.specs.Order.{rolesFit, orderRefusal};
-use audit_book_answer::role_number;
+use audit_codes::role_number;
 use audit_model::settings::AuditInputMode;
 use audit_model::settings::LastOrdinal;
 use audit_model::settings::MateRole;

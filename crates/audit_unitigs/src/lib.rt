@@ -7,9 +7,9 @@ ghost use Rattle.identifiers.specs.Lent.{lentCut};
 ghost use Rattle.catalogue.specs.Catalogue.{lentCatalogue};
 ghost use Rattle.buffers.specs.Placed.{placed};
 ghost use Rattle.audit_ledger.specs.Booking.{countersOf, lentCounters};
-ghost use Rattle.audit_model.specs.Sheet.{statusNumber};
 ghost use Rattle.audit_model.specs.Unitigs.{shownNumbers};
 ghost use Rattle.audit_unitigs.specs.Rows.{namesAlike, placeAlike, listsFor, rowsTo, Named, RowsLent, Applies};
+use audit_codes::status_number;
 use audit_model::calls::CallAnswer;
 use audit_model::sheet::Availability;
 use audit_model::sheet::PlacementTotals;
@@ -22,18 +22,6 @@ use catalogue::bounds::in_bounds;
 use identifiers::compare::Comparison;
 use identifiers::compare::compare_names;
 use identifiers::sequences::sequence_at;
-
-// The number of a status.
-pub fn status_number(status: Status) -> u64
-    ensures { λ r. ⌜ r ≡ statusNumber status ⌝ }
-{
-    match status {
-        Status::Complete => 0,
-        Status::CandidateLimit => 1,
-        Status::RemapDisabled => 2,
-        Status::ClosedUnsupported => 3,
-    }
-}
 
 // Whether two lists of targets have the same name and topology at a place.
 fn same_at(

@@ -7,12 +7,13 @@ use Prim.Native.Nat.{ℕ, zero, suc, _≤_}
 use native.Mathlib.Omega.{arith}
 use lib.ListN.{length, getD}
 use lib.Seq.{drop-cons}
+use Rattle.audit_codes.specs.Codes.{statusOf}
 use Rattle.lists.specs.Cut.{window}
 use Rattle.promises.specs.Refusal.{accepted}
 use Rattle.audit_model.specs.Sheet.{shown, totalsOf}
 use Rattle.audit_model.specs.Unitigs.{shownNumbers}
 use Rattle.c_state.proofs.Again.{mode-back, mark-back, cut-off, last-four}
-use Rattle.c_sheet.specs.Sheet.{finishNumbers, statusOf, sheetIn, isSheet}
+use Rattle.c_sheet.specs.Sheet.{finishNumbers, sheetIn, isSheet}
 use Rattle.c_sheet.proofs.Testing.{sheet-parts}
 
 run-back : (n p g m : ℕ) → n ≤ 2 → (n ≡ 0) ⊎ ((p ≡ 0) × (g ≡ 0) × (m ≡ 0)) → shownNumbers (shown (statusOf n) (totalsOf p g m)) ≡ n ∷ p ∷ g ∷ m ∷ []

@@ -20,11 +20,10 @@ use Rattle.audit_model.specs.declared.sheet.Shown.{Shown}
 use Rattle.audit_model.specs.declared.sheet.Sheet.{Sheet}
 use Rattle.audit_model.specs.Sheet.{shown, totalsOf}
 use Rattle.audit_model.specs.Unitigs.{totalNumbers, shownNumbers}
-use Rattle.audit_codes.specs.Codes.{modeOf, isSet}
-use Rattle.c_state.specs.Layout.{flagNumber, modeNumber}
+use Rattle.audit_codes.specs.Codes.{modeOf, isSet, flagNumber, modeNumber, statusOf}
 use Rattle.c_state.proofs.Writing.{put-two}
 use Rattle.audit_model.specs.Calls.{finishOutcome}
-use Rattle.c_sheet.specs.Sheet.{sheetNumbers, finishNumbers, statusOf, sheetIn}
+use Rattle.c_sheet.specs.Sheet.{sheetNumbers, finishNumbers, sheetIn}
 
 length-totals : (a : Availability) → length (totalNumbers a) ≡ 3
 length-totals totals.Unavailable = refl
@@ -66,12 +65,6 @@ pub length-sheet : (s : Sheet) → length (s .table) ≡ 18 → length (sheetNum
 length-sheet s lt = omega (arith, length-append (s .table) (shownNumbers (s .run)), length-shown (s .run))
 
 -- ---- read back
-
-pub unsupported : (n : ℕ) → (n ≡ 0 → ⊥) → (n ≡ 1 → ⊥) → (n ≡ 2 → ⊥) → statuses.ClosedUnsupported ≡ statusOf n
-unsupported zero h k m = absurd (h refl)
-unsupported (suc zero) h k m = absurd (k refl)
-unsupported (suc (suc zero)) h k m = absurd (m refl)
-unsupported (suc (suc (suc n))) h k m = refl
 
 pub sheet-in : (ns : List ℕ) (mode : AuditInputMode) (remap : Bool) (table : List ℕ) (run : Shown) (s : Status) (n p g m : ℕ)
     → mode ≡ modeOf (getD ns 1 0) → remap ≡ isSet (getD ns 2 0) → table ≡ window ns 3 18 → run ≡ shown s (totalsOf p g m) → s ≡ statusOf n

@@ -7,13 +7,11 @@ use lib.Dec.{eqb, leb}
 use Rattle.lists.specs.Cut.{window}
 use Rattle.lists.specs.Filter.{every}
 use Rattle.promises.specs.Refusal.{Outcome, refused, accepted}
-use Rattle.audit_model.specs.declared.sheet.Status.{Status}
 use Rattle.audit_model.specs.declared.sheet.Status.the-variants as statuses
 use Rattle.audit_model.specs.declared.sheet.Sheet.{Sheet}
 use Rattle.audit_model.specs.Sheet.{shown, totalsOf}
 use Rattle.audit_model.specs.Unitigs.{shownNumbers}
-use Rattle.audit_codes.specs.Codes.{modeOf, isMark, isSet}
-use Rattle.c_state.specs.Layout.{flagNumber, modeNumber}
+use Rattle.audit_codes.specs.Codes.{modeOf, isMark, isSet, flagNumber, modeNumber, statusOf}
 
 abbrev pub finishLength : ℕ
 finishLength = 25
@@ -31,11 +29,6 @@ finishNumbers (accepted s) = 0 ∷ sheetNumbers s
 
 -- ---- read back
 
-abbrev pub statusOf : ℕ → Status
-statusOf zero = statuses.Complete
-statusOf (suc zero) = statuses.CandidateLimit
-statusOf (suc (suc zero)) = statuses.RemapDisabled
-statusOf (suc (suc (suc n))) = statuses.ClosedUnsupported
 
 abbrev pub sheetIn : List ℕ → Sheet
 sheetIn ns =

@@ -7,19 +7,19 @@ ghost use Rattle.promises.specs.Slice.{old, new};
 ghost use Rattle.buffers.specs.Placed.{placed};
 ghost use Rattle.c_replies.specs.Replies.{Put};
 ghost use Rattle.audit_model.specs.Calls.{finishOutcome};
-ghost use Rattle.c_sheet.specs.Sheet.{finishLength, finishNumbers, sheetNumbers, statusOf, sheetIn, statusFits, isSheet};
+ghost use Rattle.c_sheet.specs.Sheet.{finishLength, finishNumbers, sheetNumbers, sheetIn, statusFits, isSheet};
+use audit_codes::flag_number;
+use audit_codes::mode_number;
 use audit_codes::mode_of;
+use audit_codes::status_of;
 use audit_model::calls::CallAnswer;
 use audit_model::calls::Finish;
 use audit_model::sheet::PlacementTotals;
 use audit_model::sheet::Sheet;
-use audit_model::sheet::Status;
 use audit_sheet::showing::shown_with;
 use audit_unitigs::write_shown;
 use buffers::copy_numbers;
 use c_state::eighteen;
-use c_state::flag_number;
-use c_state::mode_number;
 
 // Writes a sheet from a place on.
 fn put_sheet(numbers: &mut [u64], at: usize, sheet: Sheet)
@@ -55,21 +55,6 @@ pub fn put_finish(answer: &mut [u64], finish: Finish) -> u64
             0
         }
     }
-}
-
-fn status_of(number: u64) -> Status
-    ensures { λ r. ⌜ r ≡ statusOf number ⌝ }
-{
-    if number == 0 {
-        return Status::Complete;
-    }
-    if number == 1 {
-        return Status::CandidateLimit;
-    }
-    if number == 2 {
-        return Status::RemapDisabled;
-    }
-    Status::ClosedUnsupported
 }
 
 // Whether a run has a status: with remap off it is 2, else 0 or 1.

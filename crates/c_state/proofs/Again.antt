@@ -15,8 +15,8 @@ use Rattle.audit_model.specs.declared.settings.AuditInputMode.the-variants as m
 use Rattle.audit_model.specs.declared.settings.LastOrdinal.{LastOrdinal}
 use Rattle.audit_model.specs.declared.settings.LastOrdinal.the-variants as ordinals
 use Rattle.audit_model.specs.declared.settings.AuditState.{AuditState}
-use Rattle.audit_codes.specs.Codes.{modeOf, isSet}
-use Rattle.c_state.specs.Layout.{flagNumber, modeNumber, lastNumbers, ledgerNumbers, stateNumbers, lastOf, stateIn, isState}
+use Rattle.audit_codes.specs.Codes.{modeOf, isSet, flagNumber, modeNumber}
+use Rattle.c_state.specs.Layout.{lastNumbers, ledgerNumbers, stateNumbers, lastOf, stateIn, isState}
 use Rattle.c_state.proofs.Testing.{StateParts, state-parts, with-last, without-last}
 use Rattle.c_state.proofs.Writing.{length-state}
 

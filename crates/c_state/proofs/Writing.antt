@@ -17,8 +17,8 @@ use Rattle.audit_model.specs.declared.settings.LastOrdinal.{LastOrdinal}
 use Rattle.audit_model.specs.declared.settings.LastOrdinal.the-variants as ordinals
 use Rattle.audit_model.proofs.settings.LastOrdinal.{the-type}
 use Rattle.audit_model.specs.declared.settings.AuditState.{AuditState}
-use Rattle.audit_codes.specs.Codes.{isSet}
-use Rattle.c_state.specs.Layout.{flagNumber, modeNumber, lastNumbers, ledgerNumbers, stateNumbers, lastOf, stateIn}
+use Rattle.audit_codes.specs.Codes.{isSet, flagNumber, modeNumber}
+use Rattle.c_state.specs.Layout.{lastNumbers, ledgerNumbers, stateNumbers, lastOf, stateIn}
 
 -- as many numbers as a buffer has take its place
 pub placed-whole : (xs b : List ℕ) → length xs ≡ length b → placed 0 xs b ≡ xs

@@ -6,12 +6,11 @@ use lib.ListN.{length, getD}
 use lib.Dec.{eqb, leb}
 use Rattle.lists.specs.Cut.{window}
 use Rattle.audit_ledger.specs.declared.Ledger.{Ledger}
-use Rattle.audit_model.specs.declared.settings.AuditInputMode.{AuditInputMode}
 use Rattle.audit_model.specs.declared.settings.AuditInputMode.the-variants as modes
 use Rattle.audit_model.specs.declared.settings.LastOrdinal.{LastOrdinal}
 use Rattle.audit_model.specs.declared.settings.LastOrdinal.the-variants as ordinals
 use Rattle.audit_model.specs.declared.settings.AuditState.{AuditState}
-use Rattle.audit_codes.specs.Codes.{modeOf, isMark, isSet}
+use Rattle.audit_codes.specs.Codes.{modeOf, isMark, isSet, flagNumber, modeNumber}
 
 -- the number that names this layout
 abbrev pub stateLayout : ℕ
@@ -21,14 +20,6 @@ abbrev pub stateLength : ℕ
 stateLength = 32
 
 -- ---- written
-
-abbrev pub flagNumber : Bool → ℕ
-flagNumber true = 1
-flagNumber false = 0
-
-abbrev pub modeNumber : AuditInputMode → ℕ
-modeNumber modes.SingleEnd = 0
-modeNumber modes.PairedEnd = 1
 
 -- whether a fragment was accepted, and its ordinal
 abbrev pub lastNumbers : LastOrdinal → List ℕ

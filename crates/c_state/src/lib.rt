@@ -6,10 +6,11 @@ ghost use lib.ListN.{length};
 ghost use Rattle.lists.specs.Cut.{window};
 ghost use Rattle.promises.specs.Slice.{old, new};
 ghost use Rattle.buffers.specs.Placed.{placed};
-ghost use Rattle.c_state.specs.Layout.{stateLength, flagNumber, modeNumber, lastNumbers, ledgerNumbers, stateNumbers, lastOf, stateIn, isState};
+ghost use Rattle.c_state.specs.Layout.{stateLength, lastNumbers, ledgerNumbers, stateNumbers, lastOf, stateIn, isState};
+use audit_codes::flag_number;
+use audit_codes::mode_number;
 use audit_codes::mode_of;
 use audit_ledger::Ledger;
-use audit_model::settings::AuditInputMode;
 use audit_model::settings::AuditState;
 use audit_model::settings::LastOrdinal;
 use audit_model::settings::Settings;
@@ -18,21 +19,6 @@ use buffers::copy_numbers;
 pub const STATE_LENGTH: usize = 32;
 
 const STATE_LAYOUT: u64 = 1;
-
-pub fn flag_number(flag: bool) -> u64
-    ensures { λ r. ⌜ r ≡ flagNumber flag ⌝ }
-{
-    if flag { 1 } else { 0 }
-}
-
-pub fn mode_number(mode: AuditInputMode) -> u64
-    ensures { λ r. ⌜ r ≡ modeNumber mode ⌝ }
-{
-    match mode {
-        AuditInputMode::SingleEnd => 0,
-        AuditInputMode::PairedEnd => 1,
-    }
-}
 
 // Eighteen numbers from a place on.
 pub fn eighteen(numbers: &[u64], at: usize) -> [u64; 18]

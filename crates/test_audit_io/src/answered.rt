@@ -1,31 +1,21 @@
 // What the calls of an audit answer and leave, written as lines of numbers.
+use audit_codes::flag_number;
+use audit_codes::mode_number;
+use audit_codes::status_number;
 use audit_ledger::Ledger;
 use audit_model::calls::CallAnswer;
 use audit_model::calls::FragmentAnswer;
-use audit_model::settings::AuditInputMode;
 use audit_model::settings::AuditState;
 use audit_model::settings::LastOrdinal;
 use audit_model::settings::Settings;
 use audit_model::sheet::Availability;
 use audit_model::sheet::PlacementTotals;
 use audit_model::sheet::Sheet;
-use audit_unitigs::status_number;
 use test_cases::writing::put;
 use test_cases::writing::put_line;
 use test_cases::writing::put_number;
 use test_cases::writing::put_numbers;
 use test_map_calls::answered::put_mapping;
-
-fn mode_number(mode: AuditInputMode) -> u64 {
-    match mode {
-        AuditInputMode::SingleEnd => 0,
-        AuditInputMode::PairedEnd => 1,
-    }
-}
-
-fn flag_number(flag: bool) -> u64 {
-    if flag { 1 } else { 0 }
-}
 
 fn put_settings(settings: Settings) {
     let mode = settings.mode;

@@ -5,7 +5,6 @@ use native.Mathlib.Omega.{arith}
 use lib.ListN.{replicate}
 use borrow.Author.Needs.{needs}
 use Rattle.buffers.specs.Placed.{placed}
-use Rattle.map_every_start.specs.Entries.{entryCount}
 use Rattle.map_every_start.proofs.entries.clear_entries.Statement.{statement}
 use Rattle.map_every_start.proofs.entries.clear_entries.Tie as tie
 

@@ -1,9 +1,9 @@
--- `c_sheet::status_of` meets its contract.
+-- `audit_codes::status_of` meets its contract.
 use native.Mathlib.Omega.{arith}
-use Rattle.c_sheet.proofs.Writing.{unsupported}
+use Rattle.audit_codes.proofs.Codes.{unsupported}
 use borrow.Author.Needs.{needs}
-use Rattle.c_sheet.proofs.status_of.Statement.{statement}
-use Rattle.c_sheet.proofs.status_of.Tie as tie
+use Rattle.audit_codes.proofs.status_of.Statement.{statement}
+use Rattle.audit_codes.proofs.status_of.Tie as tie
 
 returns : tie.Need-returns
 returns c = search needs
