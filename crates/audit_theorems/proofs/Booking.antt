@@ -17,15 +17,13 @@ use Rattle.index_model.specs.Index.{mappedSequences}
 use Rattle.map_places.specs.Place.{Place, groups}
 use Rattle.map_places.proofs.Placing.{groups-∈}
 use Rattle.map_every_start.specs.Entries.{entryCount}
-use Rattle.map_by_index.specs.Work.{Way, workBy}
-use Rattle.map_answers.specs.Answer.{row, stateOf, mappedRow}
+use Rattle.map_answers.specs.Answer.{stateOf, mappedState}
 use Rattle.audit_ledger.specs.Booking.{Booked}
 use Rattle.audit_ledger.specs.Counting.{Bookable}
 use Rattle.audit_model.specs.declared.settings.MateRole.the-variants as roles
 use Rattle.audit_model.specs.declared.settings.Settings.{Settings}
 use Rattle.audit_model.specs.Settings.{Held, statesShown}
-use Rattle.audit_model.specs.Opening.{wayOf}
-use Rattle.audit_model.specs.Observing.{MateRead, isEligible, noWork, mateBooked}
+use Rattle.audit_model.specs.Observing.{MateRead, isEligible, mateBooked}
 use Rattle.audit_model.specs.Fragment.{fragmentRefusal, fragmentBooked, fragmentAccepted}
 use Rattle.audit_model.proofs.Booked.{few-roles}
 use Rattle.audit_theorems.proofs.Turned.{listed-∈}
@@ -47,7 +45,7 @@ shown-few true n (inr (inr (inr (inl e)))) = omega arith
 shown-few true n (inr (inr (inr (inr (inl e))))) = omega arith
 shown-few false n (inl e) = omega arith
 
-module _ (offset : ℕ) (s : Settings) (ss : List (List ℕ)) (way : Way) (r : MateRead) where
+module _ (offset : ℕ) (s : Settings) (ss : List (List ℕ)) (r : MateRead) where
   -- its state is one that the sheet shows
   pub state-shown : mateBooked offset s ss r .state ∈ statesShown (s .remap)
   state-shown = go (s .remap) (isEligible (eligibility (s .floor) offset (r .read)))
@@ -55,7 +53,7 @@ module _ (offset : ℕ) (s : Settings) (ss : List (List ℕ)) (way : Way) (r : M
       gs : List Place
       gs = groups ss (r .read .bases)
 
-      go : (remap fit : Bool) → cond (remap && fit) (mappedRow (s .limit) gs (workBy way ss (r .read .bases) (s .limit))) (row (cond remap 1 0) 0 noWork) .state ∈ statesShown remap
+      go : (remap fit : Bool) → cond (remap && fit) (mappedState (s .limit) (length gs)) (cond remap 1 0) ∈ statesShown remap
       go true true = by-test (ltb (s .limit) (length gs)) (λ u. rw u (inr (inl refl))) (λ u. rw u (shown-state (length gs)))
       go true false = inl refl
       go false fit = inl refl
@@ -70,9 +68,9 @@ module _ (offset : ℕ) (s : Settings) (ss : List (List ℕ)) (way : Way) (r : M
       }
 
 -- in the targets of a catalogue
-pub mate-bookable : (c : Catalogue) (offset : ℕ) (s : Settings) (way : Way) (r : MateRead) → Bookable (length (suppliedPlaces c)) (mateBooked offset s (mappedSequences c) r)
-mate-bookable c offset s way r =
-    subst (λ n. Bookable n (mateBooked offset s (mappedSequences c) r)) (length-map (mapped c) _ ∙ sym (length-map (mapped c) _)) (read-bookable offset s (mappedSequences c) way r)
+pub mate-bookable : (c : Catalogue) (offset : ℕ) (s : Settings) (r : MateRead) → Bookable (length (suppliedPlaces c)) (mateBooked offset s (mappedSequences c) r)
+mate-bookable c offset s r =
+    subst (λ n. Bookable n (mateBooked offset s (mappedSequences c) r)) (length-map (mapped c) _ ∙ sym (length-map (mapped c) _)) (read-bookable offset s (mappedSequences c) r)
 
 -- ---- runs
 
@@ -90,7 +88,7 @@ module _ (q offset : ℕ) (c : Catalogue) where
   settings-after h (x ∷ xs) = settings-after (next q offset c h x) xs ∙ settings-stay h x
 
   -- what holds of every read that is observed under the settings holds of the history
-  pub history-all : (s : Settings) (P : Booked → Type 0) → ((way : Way) (r : MateRead) → P (mateBooked offset s (mappedSequences c) r))
+  pub history-all : (s : Settings) (P : Booked → Type 0) → ((r : MateRead) → P (mateBooked offset s (mappedSequences c) r))
       → (h : Held) → h .state .settings ≡ s → (xs : List Call) (b : Booked) → b ∈ history q offset c h xs → P b
   history-all s P all h e (x ∷ xs) b m =
       split (history-all s P all (next q offset c h x) (settings-stay h x ∙ e) xs b) (append-∈ b (books q offset c h x) (history q offset c (next q offset c h x) xs) m)
@@ -98,7 +96,7 @@ module _ (q offset : ℕ) (c : Catalogue) where
       here : (n : ℕ) → b ∈ ifPassed n (fragmentBooked offset c h (x .fragment)) [] → P b
       here zero i =
           let r = map-∈ (mateBooked offset (h .state .settings) (mappedSequences c)) b (x .fragment .reads) i in
-          subst P (sym (r .2)) (subst (λ (u : Settings). P (mateBooked offset u (mappedSequences c) (r .0))) (sym e) (all (wayOf q (x .lent)) (r .0)))
+          subst P (sym (r .2)) (subst (λ (u : Settings). P (mateBooked offset u (mappedSequences c) (r .0))) (sym e) (all (r .0)))
 
       split : (b ∈ history q offset c (next q offset c h x) xs → P b) → (b ∈ books q offset c h x) ⊎ (b ∈ history q offset c (next q offset c h x) xs) → P b
       split later (inl i) = here (fragmentRefusal q offset c (x .lent) h (x .fragment) (entryCount (x .entries))) i

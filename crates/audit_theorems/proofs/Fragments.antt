@@ -29,7 +29,7 @@ use Rattle.audit_theorems.specs.Placements.{placementsIn, placementsIf, 
 use Rattle.lists.specs.Each.{Each, no-more, both}
 use Rattle.audit_theorems.specs.Twins.{TwinRead, turnedMate, plainMate, ReadAgrees, TwinRow}
 use Rattle.audit_theorems.proofs.Placing.{placementOf, placements-listed, placements-turned}
-use Rattle.audit_theorems.proofs.Turned.{row-listed, listed-∈, state-same, read-fewer, state-turned, read-turned, targets-turned}
+use Rattle.audit_theorems.proofs.Turned.{listed-∈, read-fewer, state-turned, read-turned, targets-turned}
 
 -- ---- reads booked alike
 
@@ -59,14 +59,14 @@ module _ (q offset : ℕ) (some : 1 ≤ q) (c : Catalogue) (valid : Valid c) (s 
           → (books : Books) → bookedOne ranked (mateBooked offset s ss (t .mate)) books ≡ bookedOne ranked (mateBooked offset s ss (cond b (turnedMate (t .mate)) (t .mate))) books
       go true y =
           booked-same ranked (mateBooked offset s ss (t .mate)) (mateBooked offset s ss (turnedMate (t .mate))) refl
-          (state-turned offset s ss (t .mate) z y (byIndex q) plain) (targets-turned offset s ss (t .mate) z y ranked)
-      go false y = booked-same ranked (mateBooked offset s ss (t .mate)) (mateBooked offset s ss (t .mate)) refl (state-same offset s ss (byIndex q) plain (t .mate)) refl
+          (state-turned offset s ss (t .mate) z y) (targets-turned offset s ss (t .mate) z y ranked)
+      go false y = λ books. refl
 
   -- the placements of a read stand in its part
   part-shows : (way : Way) (m : MateRead) (part before : List ℕ) → part ≡ placed 0 (observedEntries s ss ranked (observe offset s m)) (cleared before)
       → placementsIn (observedRow s ss way (observe offset s m) .groups) part ≡ map (placementOf ranked (length (m .read .bases))) (observedListed s ss (observe offset s m))
   part-shows way m part before e =
-      ap₂ placementsIn (row-listed offset s ss way m) e
+      ap (placementsIn (length (observedListed s ss (observe offset s m)))) e
       ∙ placements-listed ranked (length (m .read .bases)) (observedListed s ss (observe offset s m)) (drop (0 + length (observedEntries s ss ranked (observe offset s m))) (cleared before))
 
   listed-ranked : (m : MateRead) (p : Place) → p ∈ observedListed s ss (observe offset s m) → p .rank < length (mapped c)
@@ -85,16 +85,16 @@ module _ (q offset : ℕ) (some : 1 ≤ q) (c : Catalogue) (valid : Valid c) (s 
           × (observedRow s ss (byIndex q) (observe offset s (t .mate)) .groups ≡ observedRow s ss plain (observe offset s (cond b (turnedMate (t .mate)) (t .mate))) .groups)
           × (placementsIn (observedRow s ss plain (observe offset s (cond b (turnedMate (t .mate)) (t .mate))) .groups) part′ ≡ placementsIf b c (placementsIn (observedRow s ss (byIndex q) (observe offset s (t .mate)) .groups) part))
       go true y x = (
-        state-turned offset s ss (t .mate) z y (byIndex q) plain,
-        row-listed offset s ss (byIndex q) (t .mate) ∙ sym (length-turned (observedListed s ss (observe offset s (t .mate)))) ∙ ap length (sym (read-turned offset s ss (t .mate) z y)) ∙ sym (row-listed offset s ss plain (turnedMate (t .mate))),
+        state-turned offset s ss (t .mate) z y,
+        sym (length-turned (observedListed s ss (observe offset s (t .mate)))) ∙ ap length (sym (read-turned offset s ss (t .mate) z y)),
         part-shows plain (turnedMate (t .mate)) part′ before′ x
             ∙ ap₂ (λ n l. map (placementOf ranked n) l) (length-reverse-complement (t .mate .read .bases)) (read-turned offset s ss (t .mate) z y)
             ∙ placements-turned c valid (length (t .mate .read .bases)) (observedListed s ss (observe offset s (t .mate))) (listed-ranked (t .mate))
             ∙ ap (turnedPlacements c) (sym (part-shows (byIndex q) (t .mate) part before e)),
       )
       go false y x = (
-        state-same offset s ss (byIndex q) plain (t .mate),
-        row-listed offset s ss (byIndex q) (t .mate) ∙ sym (row-listed offset s ss plain (t .mate)),
+        refl,
+        refl,
         part-shows plain (t .mate) part′ before′ x ∙ sym (part-shows (byIndex q) (t .mate) part before e),
       )
 

@@ -26,7 +26,7 @@ use Rattle.lists.specs.Each.{Each, no-more, both}
 use Rattle.audit_theorems.specs.Meaning.{ReadMeans, Told, ReadsMean, CallsMean, no-call, a-call}
 use Rattle.audit_theorems.proofs.Accepting.{accepted-when}
 use Rattle.audit_theorems.proofs.Booking.{mate-bookable}
-use Rattle.audit_theorems.proofs.Turned.{row-listed}
+use Rattle.map_search.proofs.Listed.{none-listed}
 
 -- a read whose listed groups stand at the front of its part
 read-means : (offset : ℕ) (s : Settings) (c : Catalogue) → Valid c → (way : Way) (r : MateRead) (part part′ : List ℕ)
@@ -34,12 +34,12 @@ read-means : (offset : ℕ) (s : Settings) (c : Catalogue) → Valid c → (way 
     → ReadMeans offset s c r (observedRow s (mappedSequences c) way (observe offset s r)) (mateBooked offset s (mappedSequences c) r) part part′
 read-means offset s c right way r part part′ e =
     record {
-      bookable = mate-bookable c offset s way r;
+      bookable = mate-bookable c offset s r;
       role = refl;
       state = refl;
-      groups = sym (row-listed offset s (mappedSequences c) way r);
+      groups = refl;
       entries = e;
-      unsearched = λ off. rw off;
+      unsearched = λ off. rw (off, none-listed (s .limit));
       searched = λ on. rw on (row-lists c right (r .read .bases) (s .limit) (workBy way (mappedSequences c) (r .read .bases) (s .limit)) part part′ (rw on at e));
     }
 

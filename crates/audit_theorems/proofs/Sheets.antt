@@ -137,7 +137,7 @@ module _ (q offset : ℕ) (c : Catalogue) (lent : IndexLent) (s : Settings) (k :
   -- ---- the books agree
 
   shown-states : (b : Booked) → b ∈ booked → b .state ∈ statesShown (s .remap)
-  shown-states = history-all q offset c s (λ b. b .state ∈ statesShown (s .remap)) (λ way r. state-shown offset s (mappedSequences c) way r) start (ap (λ (h : Held). h .state .settings) start-is) xs
+  shown-states = history-all q offset c s (λ b. b .state ∈ statesShown (s .remap)) (state-shown offset s (mappedSequences c)) start (ap (λ (h : Held). h .state .settings) start-is) xs
 
   start-countable : countable (heldBooks (started c s)) ≡ true
   start-countable = empty-countable (length (targets c))

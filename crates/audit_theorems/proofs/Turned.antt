@@ -24,7 +24,7 @@ use Rattle.map_answers.specs.Bounds.{lengthRight}
 use Rattle.map_answers.specs.Answer.{listed}
 use Rattle.map_search.proofs.Listed.{none-listed, listed-part}
 use Rattle.indexed_mapper.specs.Laws.{turnedGroups}
-use Rattle.indexed_mapper.proofs.Laws.{row-work, number-turned, listed-turned}
+use Rattle.indexed_mapper.proofs.Laws.{number-turned, listed-turned}
 use Rattle.audit_ledger.specs.Booking.{targetsOf}
 use Rattle.audit_model.specs.declared.settings.Settings.{Settings}
 use Rattle.audit_model.specs.Observing.{MateRead, verdictRefusal, isEligible, mateRefusal, isSearched, observe, observedListed, observedRow, observedState}
