@@ -29,7 +29,6 @@ finishNumbers (accepted s) = 0 ∷ sheetNumbers s
 
 -- ---- read back
 
-
 abbrev pub sheetIn : List ℕ → Sheet
 sheetIn ns =
     record {

@@ -1,3 +1,4 @@
+pub mod Clearing
 pub mod Going
 pub mod Scanning
 pub mod Visiting

@@ -1,10 +1,8 @@
 -- `map_every_start::entries::clear_entries` meets its contract: as many numbers are set to zero as whole entries have.
-use mathlib.Core.Path.{_≡_, ap, _∙_}
-use Prim.Native.Nat.{_*_}
+use mathlib.Core.Path.{_∙_}
 use native.Mathlib.Omega.{arith}
-use lib.ListN.{replicate}
 use borrow.Author.Needs.{needs}
-use Rattle.buffers.specs.Placed.{placed}
+use Rattle.map_every_start.proofs.Clearing.{whole-cleared}
 use Rattle.map_every_start.proofs.entries.clear_entries.Statement.{statement}
 use Rattle.map_every_start.proofs.entries.clear_entries.Tie as tie
 
@@ -18,7 +16,7 @@ same-length : tie.Need-same-length
 same-length c = search needs
 
 returns : tie.Need-returns
-returns c = let b = c .before .before .args .entries .now in c .clear .ensures ∙ ap (λ k. placed 0 (replicate k 0) b) (omega arith)
+returns c = c .before .before .clear .ensures ∙ whole-cleared (c .before .before .before .before .before .args .entries .now)
 
 pub clear-entries-spec : {M : Type 1} → statement M
 clear-entries-spec = tie.close (tie.spec mul-n clear-requires same-length returns)
