@@ -12,7 +12,7 @@ same-length : tie.Need-same-length
 same-length c = search needs
 
 returns : tie.Need-returns
-returns c = c .clear .ensures ∙ all-zero _
+returns c = c .before .before .clear .ensures ∙ all-zero (c .before .before .before .before .before .args .numbers .now)
 
 pub zero-numbers-spec : {M : Type 1} → statement M
 zero-numbers-spec = tie.close (tie.spec clear-requires same-length returns)
