@@ -4,22 +4,22 @@
 #include <stdio.h>
 
 int main(void) {
-    const uint8_t identifiers[] = "t", bases[] = "ACGTACGT", marks[] = {0}, reads[] = "ACGAAA";
-    const size_t identifier_ends[] = {1}, base_ends[] = {8}, read_ends[] = {3, 6};
-    uint64_t keys[6], ranks[6], positions[6], built[2], rows[16], entries[2 * 10 * 4];
+    const size_t identifier_ends[] = {1}, base_ends[] = {8};
+    const jekaumeo_catalogue targets = {(const uint8_t *)"t", 1, identifier_ends, (const uint8_t *)"ACGTACGT", 8, base_ends,
+                                        (const uint8_t[]){0}, 1};
+    uint64_t keys[6], ranks[6], positions[6], row[8], numbers[10 * 4];
+    jekaumeo_index index = {keys, ranks, positions, 6};
+    const jekaumeo_entries entries = {numbers, 40};
+    const char *reads[] = {"ACG", "AAA"};
 
-    if (jekaumeo_build(built, 2, keys, 6, ranks, 6, positions, 6, identifiers, 1, identifier_ends, 1, bases, 8, base_ends, 1,
-                       marks, 1, 3))
+    if (jekaumeo_build_index(&index, &targets, 3))
         return 1;
-    if (jekaumeo_map_reads(rows, 16, entries, 80, keys, 6, ranks, 6, positions, 6, identifiers, 1, identifier_ends, 1, bases,
-                           8, base_ends, 1, marks, 1, 3, reads, 6, read_ends, 2, 10))
-        return 1;
-    for (size_t i = 0; i < 2; i++) {
-        printf("state %d, groups", (int)rows[8 * i + 1]);
-        for (size_t k = 0; k < rows[8 * i + 2]; k++) {
-            const uint64_t *group = entries + 40 * i + 4 * k;
-            printf(" %d%c", (int)group[1], group[3] ? '-' : '+');
-        }
+    for (int i = 0; i < 2; i++) {
+        if (jekaumeo_map_read(row, &entries, &index, &targets, 3, (const uint8_t *)reads[i], 3, 10))
+            return 1;
+        printf("state %d, groups", (int)row[1]);
+        for (size_t k = 0; k < row[2]; k++)
+            printf(" %d%c", (int)numbers[4 * k + 1], numbers[4 * k + 3] ? '-' : '+');
         printf("\n");
     }
     return 0;

@@ -103,6 +103,119 @@ uint64_t jekaumeo_apply_to_unitigs(uint64_t *rows, size_t rows_len, JEKAUMEO_KEP
                                    const uint8_t *audited_marks, size_t audited_marks_len, JEKAUMEO_CATALOGUE,
                                    const uint64_t *sheet, size_t sheet_len);
 
+/* ---- The same calls with structs, over those above. An audit without an index (a null pointer) is the plain one. */
+
+/* Target i has the identifier bytes and the bases up to its ends. */
+typedef struct {
+    const uint8_t *identifiers;
+    size_t identifiers_len;
+    const size_t *identifier_ends;
+    const uint8_t *bases;
+    size_t bases_len;
+    const size_t *base_ends;
+    const uint8_t *marks;
+    size_t targets;
+} jekaumeo_catalogue;
+
+/* Columns of so many postings; before a build, of so many entries. */
+typedef struct {
+    uint64_t *keys, *ranks, *positions;
+    size_t postings;
+} jekaumeo_index;
+
+/* One number of each kind for each target. */
+typedef struct {
+    uint64_t *placements, *singles, *multi;
+    size_t targets;
+} jekaumeo_counters;
+
+/* A read; without qualities their pointer is null. */
+typedef struct {
+    const uint8_t *bases;
+    size_t bases_len;
+    const uint8_t *qualities;
+    size_t qualities_len;
+    uint8_t role;
+} jekaumeo_read;
+
+typedef struct {
+    uint64_t *numbers;
+    size_t len;
+} jekaumeo_entries;
+
+typedef struct {
+    uint8_t mode, remap, floor;
+    uint64_t limit;
+} jekaumeo_settings;
+
+#define JEKAUMEO_OF_CATALOGUE(c) \
+    (c)->identifiers, (c)->identifiers_len, (c)->identifier_ends, (c)->targets, (c)->bases, (c)->bases_len, (c)->base_ends, \
+        (c)->targets, (c)->marks, (c)->targets
+#define JEKAUMEO_OF_INDEX(i) (i)->keys, (i)->postings, (i)->ranks, (i)->postings, (i)->positions, (i)->postings
+#define JEKAUMEO_OF_COUNTERS(k) (k)->placements, (k)->targets, (k)->singles, (k)->targets, (k)->multi, (k)->targets
+#define JEKAUMEO_OF_READ(r) \
+    (r)->bases, (r)->bases_len, (r)->qualities ? (r)->qualities : (r)->bases, (r)->qualities ? (r)->qualities_len : 0
+
+/* Builds the index, and sets its number of postings. */
+static inline uint64_t jekaumeo_build_index(jekaumeo_index *i, const jekaumeo_catalogue *c, size_t q) {
+    uint64_t built[2];
+    uint64_t refusal = jekaumeo_build(built, 2, JEKAUMEO_OF_INDEX(i), JEKAUMEO_OF_CATALOGUE(c), q);
+    if (!refusal)
+        i->postings = (size_t)built[1];
+    return refusal;
+}
+
+/* row: eight numbers */
+static inline uint64_t jekaumeo_map_read(uint64_t *row, const jekaumeo_entries *e, const jekaumeo_index *i,
+                                         const jekaumeo_catalogue *c, size_t q, const uint8_t *read, size_t read_len,
+                                         uint64_t limit) {
+    return jekaumeo_map(row, 8, e->numbers, e->len, JEKAUMEO_OF_INDEX(i), JEKAUMEO_OF_CATALOGUE(c), q, read, read_len, limit);
+}
+
+/* state: JEKAUMEO_STATE numbers, here and below */
+static inline uint64_t jekaumeo_audit_open(uint64_t *state, const jekaumeo_counters *k, const jekaumeo_index *i,
+                                           const jekaumeo_catalogue *c, const jekaumeo_settings *s) {
+    if (!i)
+        return jekaumeo_plain_open(state, JEKAUMEO_STATE, JEKAUMEO_OF_COUNTERS(k), JEKAUMEO_OF_CATALOGUE(c), s->mode,
+                                   s->remap, s->floor, s->limit);
+    return jekaumeo_open(state, JEKAUMEO_STATE, JEKAUMEO_OF_COUNTERS(k), JEKAUMEO_OF_INDEX(i), JEKAUMEO_OF_CATALOGUE(c),
+                         s->mode, s->remap, s->floor, s->limit);
+}
+
+/* rows: sixteen numbers; reads: one, or two. Of more, only how many they are is looked at. */
+static inline uint64_t jekaumeo_audit_fragment(uint64_t *rows, uint64_t *state, const jekaumeo_entries *e,
+                                               const jekaumeo_counters *k, const jekaumeo_index *i,
+                                               const jekaumeo_catalogue *c, uint64_t ordinal, const jekaumeo_read *reads,
+                                               size_t count) {
+    static const uint8_t none[1] = {0};
+    const jekaumeo_read absent = {none, 0, none, 0, 0};
+    const jekaumeo_read *a = count > 0 ? reads : &absent, *b = count > 1 ? reads + 1 : &absent;
+    if (!i)
+        return jekaumeo_plain_fragment(rows, 16, state, JEKAUMEO_STATE, e->numbers, e->len, JEKAUMEO_OF_COUNTERS(k),
+                                       JEKAUMEO_OF_CATALOGUE(c), JEKAUMEO_OF_READ(a), JEKAUMEO_OF_READ(b), a->role,
+                                       a->qualities != 0, b->role, b->qualities != 0, ordinal, count);
+    return jekaumeo_fragment(rows, 16, state, JEKAUMEO_STATE, e->numbers, e->len, JEKAUMEO_OF_COUNTERS(k),
+                             JEKAUMEO_OF_INDEX(i), JEKAUMEO_OF_CATALOGUE(c), JEKAUMEO_OF_READ(a), JEKAUMEO_OF_READ(b),
+                             a->role, a->qualities != 0, b->role, b->qualities != 0, ordinal, count);
+}
+
+/* sheet: JEKAUMEO_SHEET numbers */
+static inline uint64_t jekaumeo_audit_finish(uint64_t *sheet, const jekaumeo_counters *k, const jekaumeo_index *i,
+                                             const jekaumeo_catalogue *c, const uint64_t *state) {
+    if (!i)
+        return jekaumeo_plain_finish(sheet, JEKAUMEO_SHEET, JEKAUMEO_OF_COUNTERS(k), JEKAUMEO_OF_CATALOGUE(c), state,
+                                     JEKAUMEO_STATE);
+    return jekaumeo_finish(sheet, JEKAUMEO_SHEET, JEKAUMEO_OF_COUNTERS(k), JEKAUMEO_OF_INDEX(i), JEKAUMEO_OF_CATALOGUE(c),
+                           state, JEKAUMEO_STATE);
+}
+
+/* rows: four numbers for each target of c */
+static inline uint64_t jekaumeo_audit_apply(uint64_t *rows, const jekaumeo_counters *k, const jekaumeo_catalogue *audited,
+                                            const jekaumeo_catalogue *c, const uint64_t *sheet) {
+    return jekaumeo_apply_to_unitigs(rows, 4 * c->targets, JEKAUMEO_OF_COUNTERS(k), JEKAUMEO_OF_CATALOGUE(audited),
+                                     JEKAUMEO_OF_CATALOGUE(c), sheet, JEKAUMEO_SHEET);
+}
+
 #ifdef __cplusplus
 }
 #endif
