@@ -35,7 +35,7 @@ use Rattle.audit_model.proofs.Booked.{refused-holds}
 use Rattle.audit_checks.specs.Opens.{OpeningRanked}
 use Rattle.audit_ledger.proofs.Booking.{each-counter}
 use Rattle.audit_checks.proofs.Ranked.{unrefused, planned}
-use Rattle.audit_observe_read.specs.Sights.{wayIf}
+use Rattle.audit_observe_read.specs.Observed.{wayIf}
 use Rattle.audit_tested.specs.Tested.{Tested, TestedAudited}
 use Rattle.audit_tested.proofs.Chain.{untouched}
 

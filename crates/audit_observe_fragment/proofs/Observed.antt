@@ -41,13 +41,13 @@ use Rattle.audit_model.proofs.Booked.{few-roles}
 use Rattle.audit_model.proofs.Parts.{Short, InParts, length-parts, parts-placed}
 use Rattle.audit_read_checks.specs.Checks.{byMode}
 use Rattle.audit_read_checks.specs.declared.SearchedReads.{SearchedReads}
-use Rattle.audit_observe_read.specs.Sights.{wayIf, asObserved}
+use Rattle.audit_observe_read.specs.Observed.{wayIf, asObserved}
 use Rattle.audit_observe_reads.specs.Reads.{observedReads, roomsRefusal, ReadsObserved}
 use Rattle.audit_observe_reads.proofs.Filled.{Within, within-placed, within-cleared, within-zeros}
 use Rattle.audit_book_answer.specs.Answers.{tallyOf, answerReads, AnswerPostable, AnswerPosted}
 use Rattle.audit_book_answer.proofs.Posted.{AllPost, posted-all, books-countable}
 use Rattle.audit_observe_fragment.specs.Observe.{observedRefusal, RankedLent, RankedObserved}
-use Rattle.audit_observe_fragment.proofs.Seeing.{sight-short, sight-posts, sight-postable}
+use Rattle.audit_observe_fragment.proofs.Seeing.{observed-short, observed-posts, observed-postable}
 
 abbrev isRefused : FragmentAnswer → Bool
 isRefused (fragments.Refused n) = true
@@ -84,25 +84,25 @@ module _ (s : Settings) (ss : List (List ℕ)) (way : Way) (ranked : List ℕ) (
 
   module _ (m : Mapping) (told : mappingRow m ≡ observedRow s ss way one) (room : observedRoom s ss P one ≡ 0) (written : entries ≡ inParts (4 * P) 0 (observedEntries s ss ranked one ∷ []) (cleared buffer)) where
     single-part : window entries 0 (4 * P) ≡ placed 0 (observedEntries s ss ranked one) (window (cleared buffer) 0 (4 * P))
-    single-part = ap (λ l. window l 0 (4 * P)) written ∙ parts-placed (4 * P) 0 (observedEntries s ss ranked one ∷ []) (cleared buffer) (sight-short s ss one ranked P room, tt) (omega (arith, room-for)) .0
+    single-part = ap (λ l. window l 0 (4 * P)) written ∙ parts-placed (4 * P) 0 (observedEntries s ss ranked one ∷ []) (cleared buffer) (observed-short s ss one ranked P room, tt) (omega (arith, room-for)) .0
 
     single-posts : AllPost ranked (record { tally = tallyOf first m; entries = entries } ∷ []) (observedBooked s ss first one ∷ [])
-    single-posts = (sight-posts s ss way ranked one m told P 0 room entries _ single-part n lent many limit first, tt)
+    single-posts = (observed-posts s ss way ranked one m told P 0 room entries _ single-part n lent many limit first, tt)
 
     single-within : Within buffer entries
-    single-within = rw written (within-parts buffer (4 * P) 0 (observedEntries s ss ranked one ∷ []) (cleared buffer) (within-zeros buffer) (sight-short s ss one ranked P room, tt) (omega arith))
+    single-within = rw written (within-parts buffer (4 * P) 0 (observedEntries s ss ranked one ∷ []) (cleared buffer) (within-zeros buffer) (observed-short s ss one ranked P room, tt) (omega arith))
 
     single-lent : (k : Counters) → n ≡ length (k .placements) → CountersLent (length (k .placements)) k → FragmentPostable (tallyOf first m) (tallyOf first m) false (4 * P) entries k
     single-lent k e c =
         record {
           counters = c;
           within = omega (arith, length-written);
-          first-postable = subst (λ z. Postable z (record { tally = tallyOf first m; entries = entries })) e (sight-postable s ss way ranked one m told P 0 room entries _ single-part n lent many limit first (roles .0) (few-states (m .state)) (omega (arith, length-written)));
+          first-postable = subst (λ z. Postable z (record { tally = tallyOf first m; entries = entries })) e (observed-postable s ss way ranked one m told P 0 room entries _ single-part n lent many limit first (roles .0) (few-states (m .state)) (omega (arith, length-written)));
           second-postable = λ f. absurd (true≢false (sym f));
         }
       where
         length-written : 4 * P ≤ length entries
-        length-written = omega (arith, room-for, ap length written, length-parts (4 * P) 0 (observedEntries s ss ranked one ∷ []) (cleared buffer) (sight-short s ss one ranked P room, tt) (omega (arith, room-for)))
+        length-written = omega (arith, room-for, ap length written, length-parts (4 * P) 0 (observedEntries s ss ranked one ∷ []) (cleared buffer) (observed-short s ss one ranked P room, tt) (omega (arith, room-for)))
 
   -- ---- a pair
 
@@ -116,7 +116,7 @@ module _ (s : Settings) (ss : List (List ℕ)) (way : Way) (ranked : List ℕ) (
     lists = observedEntries s ss ranked one ∷ observedEntries s ss ranked two ∷ []
 
     short : Short width lists
-    short = (sight-short s ss one ranked (P / 2) room, (sight-short s ss two ranked (P / 2) more, tt))
+    short = (observed-short s ss one ranked (P / 2) room, (observed-short s ss two ranked (P / 2) more, tt))
 
     halves : 0 + width * length lists ≤ length (cleared buffer)
     halves = omega (arith, room-for)
@@ -135,8 +135,8 @@ module _ (s : Settings) (ss : List (List ℕ)) (way : Way) (ranked : List ℕ) (
 
     pair-posts : AllPost ranked (record { tally = tallyOf first (m .first); entries = entries } ∷ record { tally = tallyOf second (m .second); entries = drop width entries } ∷ []) (observedBooked s ss first one ∷ observedBooked s ss second two ∷ [])
     pair-posts = (
-      sight-posts s ss way ranked one (m .first) told (P / 2) 0 room entries _ (parts .0) n lent many limit first,
-      (sight-posts s ss way ranked two (m .second) also (P / 2) width more entries _ second-part n lent many limit second, tt),
+      observed-posts s ss way ranked one (m .first) told (P / 2) 0 room entries _ (parts .0) n lent many limit first,
+      (observed-posts s ss way ranked two (m .second) also (P / 2) width more entries _ second-part n lent many limit second, tt),
     )
 
     pair-within : Within buffer entries
@@ -147,8 +147,8 @@ module _ (s : Settings) (ss : List (List ℕ)) (way : Way) (ranked : List ℕ) (
         record {
           counters = c;
           within = omega (arith, long);
-          first-postable = subst (λ z. Postable z (record { tally = tallyOf first (m .first); entries = entries })) e (sight-postable s ss way ranked one (m .first) told (P / 2) 0 room entries _ (parts .0) n lent many limit first (roles .0) (few-states (m .first .state)) (omega (arith, long)));
-          second-postable = λ _. subst (λ z. Postable z (record { tally = tallyOf second (m .second); entries = drop width entries })) e (sight-postable s ss way ranked two (m .second) also (P / 2) width more entries _ second-part n lent many limit second (roles .1) (few-states (m .second .state)) (omega (arith, long)));
+          first-postable = subst (λ z. Postable z (record { tally = tallyOf first (m .first); entries = entries })) e (observed-postable s ss way ranked one (m .first) told (P / 2) 0 room entries _ (parts .0) n lent many limit first (roles .0) (few-states (m .first .state)) (omega (arith, long)));
+          second-postable = λ _. subst (λ z. Postable z (record { tally = tallyOf second (m .second); entries = drop width entries })) e (observed-postable s ss way ranked two (m .second) also (P / 2) width more entries _ second-part n lent many limit second (roles .1) (few-states (m .second .state)) (omega (arith, long)));
         }
 
   -- ---- an answer in either mode

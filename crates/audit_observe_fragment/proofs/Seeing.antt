@@ -52,8 +52,8 @@ module _ (s : Settings) (ss : List (List ℕ)) (x : Observed) where
       go false gs a = rw (none-listed (s .limit)) tt
 
   -- its entries fit its share
-  pub sight-short : (ranked : List ℕ) (share : ℕ) → observedRoom s ss share x ≡ 0 → length (observedEntries s ss ranked x) ≤ 4 * share
-  sight-short ranked share room =
+  pub observed-short : (ranked : List ℕ) (share : ℕ) → observedRoom s ss share x ≡ 0 → length (observedEntries s ss ranked x) ≤ 4 * share
+  observed-short ranked share room =
       omega (arith, length-entries ranked (length (x .bases)) (observedListed s ss x), listed-room share (s .limit) (observedGroups s ss x) room)
 
 -- ---- a read observed into its part of the entries
@@ -80,8 +80,8 @@ module _ (s : Settings) (ss : List (List ℕ)) (way : Way) (ranked : List ℕ) (
   ranked-inside p i = omega (arith, many, groups-∈ ss (x .bases) p (listed-part (s .limit) p (x .searched) (groups ss (x .bases)) i) .0 .ranked)
 
   -- what is posted of it is what is booked of it
-  pub sight-posts : Posts ranked (record { tally = tallyOf role m; entries = drop from entries }) (observedBooked s ss role x)
-  sight-posts =
+  pub observed-posts : Posts ranked (record { tally = tallyOf role m; entries = drop from entries }) (observedBooked s ss role x)
+  observed-posts =
       record {
         role = refl;
         state = ap (λ (r : Row). r .state) told;
@@ -90,8 +90,8 @@ module _ (s : Settings) (ss : List (List ℕ)) (way : Way) (ranked : List ℕ) (
       }
 
   -- its targets have counters
-  pub sight-postable : role < 3 → stateNumber (m .state) < 6 → from + 4 * share ≤ length entries → Postable n (record { tally = tallyOf role m; entries = drop from entries })
-  sight-postable r t within =
+  pub observed-postable : role < 3 → stateNumber (m .state) < 6 → from + 4 * share ≤ length entries → Postable n (record { tally = tallyOf role m; entries = drop from entries })
+  observed-postable r t within =
       record {
         tallied = record { role = r; state = t; groups = omega (arith, groups-are, few-listed s ss x, limit-most (s .limit) limit) };
         targeted = record { room = omega (arith, groups-are, fits, length-drop from entries); inside = inside };

@@ -19,14 +19,14 @@ use Rattle.audit_model.specs.Fragment.{shareOf, inParts, entriesLeft}
 use Rattle.audit_model.specs.Calls.{fragmentOutcome}
 use Rattle.audit_read_checks.specs.declared.SearchedReads.{SearchedReads}
 use Rattle.audit_read_checks.specs.Checks.{byMode}
-use Rattle.audit_observe_read.specs.Sights.{Observable, Sighted}
+use Rattle.audit_observe_read.specs.Observed.{Observable, ReadPassed}
 use Rattle.audit_observe_reads.specs.Reads.{roomsRefusal}
 
 -- what a checked fragment is observed in: ranked sequences, reads that passed, a limit within its bounds, and counters for the targets
 pub record RankedLent (indexed : Bool) (q : ℕ) (bases ends ranked ks rs os first second : List ℕ) (searched : SearchedReads) (s : Settings) (k : Counters) : Type 0 where
   pub observable : Observable indexed q bases ends ranked ks rs os
-  pub first-sighted : Sighted (searched .first) first
-  pub second-sighted : Sighted (searched .second) second
+  pub first-passed : ReadPassed (searched .first) first
+  pub second-passed : ReadPassed (searched .second) second
   pub limit : limitRight (s .limit) ≡ true
   pub counters : CountersLent (length (k .placements)) k
   pub places : Ranked (length (k .placements)) ranked

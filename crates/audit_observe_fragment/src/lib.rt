@@ -3,7 +3,7 @@ ghost use Rattle.promises.specs.Slice.{old, new};
 ghost use Rattle.index_model.specs.Index.{lentSequences};
 ghost use Rattle.audit_ledger.specs.Booking.{countersOf, lentCounters};
 ghost use Rattle.audit_model.specs.Settings.{roleNumber};
-ghost use Rattle.audit_observe_read.specs.Sights.{wayIf, asObserved};
+ghost use Rattle.audit_observe_read.specs.Observed.{wayIf, asObserved};
 ghost use Rattle.audit_observe_fragment.specs.Observe.{RankedLent, RankedObserved};
 use audit_book_answer::post_answer;
 use audit_ledger::Ledger;

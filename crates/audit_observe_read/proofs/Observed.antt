@@ -21,11 +21,11 @@ use Rattle.map_search.proofs.Listed.{none-listed}
 use Rattle.audit_model.specs.declared.settings.Settings.{Settings}
 use Rattle.audit_model.specs.Observing.{noWork}
 use Rattle.audit_model.specs.Calls.{mappingRow}
-use Rattle.audit_observe_read.specs.Sights.{wayIf, Observable, Sighted, ReadObserved}
+use Rattle.audit_observe_read.specs.Observed.{wayIf, Observable, ReadPassed, ReadObserved}
 
 -- ---- what a search asks
 
-module _ (indexed : Bool) (q : ℕ) (bases ends ranked ks rs os : List ℕ) (o : Observable indexed q bases ends ranked ks rs os) (searched : Bool) (read : List ℕ) (r : Sighted searched read) (t : searched ≡ true) where
+module _ (indexed : Bool) (q : ℕ) (bases ends ranked ks rs os : List ℕ) (o : Observable indexed q bases ends ranked ks rs os) (searched : Bool) (read : List ℕ) (r : ReadPassed searched read) (t : searched ≡ true) where
   pub searchable : Searchable bases ends ranked read
   searchable = record { lent = o .lent; letters = r .letters-right t; short = r .short t }
 

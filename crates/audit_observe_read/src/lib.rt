@@ -8,7 +8,7 @@ ghost use Rattle.index_model.specs.Index.{lentSequences};
 ghost use Rattle.map_answers.specs.Answer.{row};
 ghost use Rattle.audit_model.specs.Observing.{noWork};
 ghost use Rattle.audit_model.specs.Calls.{mappingRow};
-ghost use Rattle.audit_observe_read.specs.Sights.{wayIf, Observable, Sighted, ReadObserved};
+ghost use Rattle.audit_observe_read.specs.Observed.{wayIf, Observable, ReadPassed, ReadObserved};
 use audit_model::settings::Settings;
 use index_lookup::lookup::NOWHERE;
 use map_answers::answer::MapAnswer;
@@ -63,7 +63,7 @@ pub fn search_read(
     searched: bool,
     settings: Settings,
 ) -> MapAnswer
-    requires { ⌜ Observable indexed q (now bases) (now ends) (now ranked) (now keys) (now ranks) (now positions) × Sighted searched (now read) ⌝ }
+    requires { ⌜ Observable indexed q (now bases) (now ends) (now ranked) (now keys) (now ranks) (now positions) × ReadPassed searched (now read) ⌝ }
     requires { ⌜ from + width ≤ length (now entries) ⌝ }
     ensures { λ r. ⌜ ReadObserved settings (lentSequences bases ends ranked) (wayIf indexed q) (old ranked) (old read) searched from width r (old entries) (new entries) ⌝ }
 {

@@ -19,7 +19,7 @@ use Rattle.map_search.specs.Answered.{searchEntries}
 use Rattle.map_search.proofs.Parts.{listed-room, read-entries-length}
 use Rattle.audit_model.specs.declared.settings.Settings.{Settings}
 use Rattle.audit_model.specs.Observing.{observedRoom, observedEntries}
-use Rattle.audit_observe_read.specs.Sights.{asObserved}
+use Rattle.audit_observe_read.specs.Observed.{asObserved}
 
 -- ---- numbers behind the last whole entry
 

@@ -35,7 +35,7 @@ use Rattle.audit_model.specs.Fragment.{firstRefusal, shareOf, inParts}
 use Rattle.audit_model.specs.Calls.{mappingRow, fragmentOutcome}
 use Rattle.audit_model.proofs.Parts.{cleared-part}
 use Rattle.audit_read_checks.specs.Checks.{byMode}
-use Rattle.audit_observe_read.specs.Sights.{asObserved, ReadObserved}
+use Rattle.audit_observe_read.specs.Observed.{asObserved, ReadObserved}
 use Rattle.audit_observe_reads.specs.Reads.{observedReads, SecondObserved, ReadsObserved}
 use Rattle.audit_observe_reads.proofs.Filled.{Within, within-placed, within-cleared, within-zeros, cleared-self, leftIn, left-length, left-written}
 

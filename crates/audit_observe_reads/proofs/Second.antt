@@ -16,7 +16,7 @@ use Rattle.audit_model.specs.declared.calls.FragmentAnswer.the-variants as frag
 use Rattle.audit_model.specs.declared.settings.Settings.{Settings}
 use Rattle.audit_model.specs.Observing.{observedRoom, observedRow}
 use Rattle.audit_model.specs.Calls.{mappingRow}
-use Rattle.audit_observe_read.specs.Sights.{asObserved, ReadObserved}
+use Rattle.audit_observe_read.specs.Observed.{asObserved, ReadObserved}
 use Rattle.audit_observe_reads.specs.Reads.{SecondObserved}
 
 module _ (s : Settings) (ss : List (List ℕ)) (way : Way) (ranked read : List ℕ) (searched : Bool) (from width : ℕ) (at : from ≡ width) (r : MapAnswer) (b b′ : List ℕ) (o : ReadObserved s ss way ranked read searched from width r b b′) (first : Mapping) where

@@ -16,7 +16,7 @@ use Rattle.audit_model.specs.Observing.{Observed, observedRoom, observedEntries
 use Rattle.audit_model.specs.Fragment.{firstRefusal, shareOf, inParts, entriesLeft}
 use Rattle.audit_model.specs.Calls.{mappingRow, fragmentOutcome}
 use Rattle.audit_read_checks.specs.Checks.{byMode}
-use Rattle.audit_observe_read.specs.Sights.{asObserved}
+use Rattle.audit_observe_read.specs.Observed.{asObserved}
 
 -- the second read of a pair observed into the part behind that of the first, whose answer is known
 pub record SecondObserved (s : Settings) (ss : List (List ℕ)) (way : Way) (ranked : List ℕ) (read : List ℕ) (searched : Bool) (width : ℕ) (first : Mapping) (r : FragmentAnswer) (buffer buffer′ : List ℕ) : Type 0 where

@@ -5,7 +5,7 @@ ghost use lib.ListN.{length};
 ghost use Rattle.promises.specs.Slice.{old, new};
 ghost use Rattle.index_model.specs.Index.{lentSequences};
 ghost use Rattle.audit_model.specs.Fragment.{shareOf};
-ghost use Rattle.audit_observe_read.specs.Sights.{wayIf, Observable, Sighted};
+ghost use Rattle.audit_observe_read.specs.Observed.{wayIf, Observable, ReadPassed};
 ghost use Rattle.audit_observe_reads.specs.Reads.{observedReads, SecondObserved, ReadsObserved};
 use audit_model::calls::FragmentAnswer;
 use audit_model::calls::Mates;
@@ -43,7 +43,7 @@ fn search_second(
     settings: Settings,
     first: Mapping,
 ) -> FragmentAnswer
-    requires { ⌜ Observable indexed q (now bases) (now ends) (now ranked) (now keys) (now ranks) (now positions) × Sighted searched (now read) ⌝ }
+    requires { ⌜ Observable indexed q (now bases) (now ends) (now ranked) (now keys) (now ranks) (now positions) × ReadPassed searched (now read) ⌝ }
     requires { ⌜ width + width ≤ length (now entries) ⌝ }
     ensures { λ r. ⌜ SecondObserved settings (lentSequences bases ends ranked) (wayIf indexed q) (old ranked) (old read) searched width first r (old entries) (new entries) ⌝ }
 {
@@ -87,7 +87,7 @@ pub fn search_reads(
     settings: Settings,
 ) -> FragmentAnswer
     requires { ⌜ Observable indexed q (now bases) (now ends) (now ranked) (now keys) (now ranks) (now positions) ⌝ }
-    requires { ⌜ Sighted «first_searched» (now first) × Sighted «second_searched» (now second) ⌝ }
+    requires { ⌜ ReadPassed «first_searched» (now first) × ReadPassed «second_searched» (now second) ⌝ }
     ensures { λ r. ⌜ ReadsObserved settings (lentSequences bases ends ranked) (wayIf indexed q) (old ranked) (observedReads settings «first_searched» (old first) «second_searched» (old second)) r (old entries) (new entries) ⌝ }
 {
     let mode = settings.mode;

@@ -31,7 +31,7 @@ use Rattle.audit_read_checks.specs.Checks.{byMode, ifPaired, checksOutcome}
 use Rattle.audit_read_checks.specs.declared.SearchedReads.{SearchedReads}
 use Rattle.audit_read_checks.specs.declared.ReadsCheck.{ReadsCheck}
 use Rattle.audit_read_checks.specs.declared.ReadsCheck.the-variants as pairs
-use Rattle.audit_observe_read.specs.Sights.{wayIf, Sighted, asObserved}
+use Rattle.audit_observe_read.specs.Observed.{wayIf, ReadPassed, asObserved}
 use Rattle.audit_roles.specs.Order.{orderRefusal}
 use Rattle.audit_observe_fragment.specs.Observe.{observedRefusal, RankedLent, RankedObserved}
 use Rattle.audit_tested.specs.Tested.{Tested, TestedObserved}
@@ -53,8 +53,8 @@ eligible-letters floor offset r e = go (letters (r .bases)) (then-eligible (give
     go false f = f
 
 -- a read that is searched has letters only, and is within its bound
-mate-sighted : (offset : ℕ) (s : Settings) (m : MateRead) (b : Bool) → (b ≡ true → isSearched offset s m ≡ true) → (b ≡ true → mateRefusal offset s m ≡ 0) → Sighted b (m .read .bases)
-mate-sighted offset s m b told unrefused =
+mate-passed : (offset : ℕ) (s : Settings) (m : MateRead) (b : Bool) → (b ≡ true → isSearched offset s m ≡ true) → (b ≡ true → mateRefusal offset s m ≡ 0) → ReadPassed b (m .read .bases)
+mate-passed offset s m b told unrefused =
     record {
       letters-right = λ e. eligible-letters (s .floor) offset (m .read) (and-true (s .remap) _ (told e) .1);
       short = λ e. leb-true (length (m .read .bases)) maxRead (passed (lengthRight (m .read .bases)) 7 (λ z. omega arith) (none-first (unless (lengthRight (m .read .bases)) 7) _ (unrefused e)));
@@ -62,13 +62,13 @@ mate-sighted offset s m b told unrefused =
 
 -- both reads, where no read of the mode is refused
 module _ (offset : ℕ) (s : Settings) (m m′ : MateRead) where
-  first-sighted : (mode : AuditInputMode) → firstRefusal (mateRefusal offset s) (byMode mode m m′) ≡ 0 → (b : Bool) → isSearched offset s m ≡ b → Sighted b (m .read .bases)
-  first-sighted modes.SingleEnd z b e = mate-sighted offset s m b (λ t. e ∙ t) (λ t. none-first (mateRefusal offset s m) _ z)
-  first-sighted modes.PairedEnd z b e = mate-sighted offset s m b (λ t. e ∙ t) (λ t. none-first (mateRefusal offset s m) _ z)
+  first-passed : (mode : AuditInputMode) → firstRefusal (mateRefusal offset s) (byMode mode m m′) ≡ 0 → (b : Bool) → isSearched offset s m ≡ b → ReadPassed b (m .read .bases)
+  first-passed modes.SingleEnd z b e = mate-passed offset s m b (λ t. e ∙ t) (λ t. none-first (mateRefusal offset s m) _ z)
+  first-passed modes.PairedEnd z b e = mate-passed offset s m b (λ t. e ∙ t) (λ t. none-first (mateRefusal offset s m) _ z)
 
-  second-sighted : (mode : AuditInputMode) → firstRefusal (mateRefusal offset s) (byMode mode m m′) ≡ 0 → (b : Bool) → ifPaired mode (isSearched offset s m′) ≡ b → Sighted b (m′ .read .bases)
-  second-sighted modes.SingleEnd z b e = mate-sighted offset s m′ b (λ t. absurd (true≢false (sym (e ∙ t)))) (λ t. absurd (true≢false (sym (e ∙ t))))
-  second-sighted modes.PairedEnd z b e = mate-sighted offset s m′ b (λ t. e ∙ t) (λ t. none-first (mateRefusal offset s m′) _ (none-second (mateRefusal offset s m) _ z))
+  second-passed : (mode : AuditInputMode) → firstRefusal (mateRefusal offset s) (byMode mode m m′) ≡ 0 → (b : Bool) → ifPaired mode (isSearched offset s m′) ≡ b → ReadPassed b (m′ .read .bases)
+  second-passed modes.SingleEnd z b e = mate-passed offset s m′ b (λ t. absurd (true≢false (sym (e ∙ t)))) (λ t. absurd (true≢false (sym (e ∙ t))))
+  second-passed modes.PairedEnd z b e = mate-passed offset s m′ b (λ t. e ∙ t) (λ t. none-first (mateRefusal offset s m′) _ (none-second (mateRefusal offset s m) _ z))
 
 -- ---- the way of searching, where no read is searched
 
@@ -118,8 +118,8 @@ module _ (offset : ℕ) (ss : List (List ℕ)) (indexed : Bool) (q : ℕ) (ranke
       ranked-lent bases ends ks rs os t searchable e =
           record {
             observable = rw e (t .observable);
-            first-sighted = first-sighted offset s m m′ (s .mode) (reads-passed .0) (p .first) first-is;
-            second-sighted = second-sighted offset s m m′ (s .mode) (reads-passed .0) (p .second) second-is;
+            first-passed = first-passed offset s m m′ (s .mode) (reads-passed .0) (p .first) first-is;
+            second-passed = second-passed offset s m m′ (s .mode) (reads-passed .0) (p .second) second-is;
             limit = t .limit;
             counters = t .counters;
             places = t .places;

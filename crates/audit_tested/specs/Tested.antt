@@ -17,7 +17,7 @@ use Rattle.audit_model.specs.declared.settings.Settings.{Settings}
 use Rattle.audit_model.specs.Settings.{Held}
 use Rattle.audit_model.specs.Fragment.{Fragment, entriesLeft, testedRefusal, testedRows, testedAccepted, testedWritten}
 use Rattle.audit_model.specs.Calls.{fragmentOutcome}
-use Rattle.audit_observe_read.specs.Sights.{Observable}
+use Rattle.audit_observe_read.specs.Observed.{Observable}
 
 -- what it is lent: ranked sequences, with their index where reads are searched by it; a limit within its bounds; counters for the targets
 pub record Tested (indexed : Bool) (q : ℕ) (bases ends ranked ks rs os : List ℕ) (s : Settings) (k : Counters) : Type 0 where

@@ -3,7 +3,7 @@ ghost use Rattle.promises.specs.Slice.{old, new};
 ghost use Rattle.index_model.specs.Index.{lentSequences};
 ghost use Rattle.audit_ledger.specs.Booking.{countersOf};
 ghost use Rattle.audit_model.specs.Calls.{lentHeld, lentMate, fragmentOf};
-ghost use Rattle.audit_observe_read.specs.Sights.{wayIf};
+ghost use Rattle.audit_observe_read.specs.Observed.{wayIf};
 ghost use Rattle.audit_tested.specs.Tested.{Tested, TestedObserved};
 use audit_model::calls::FragmentAnswer;
 use audit_model::settings::AuditState;

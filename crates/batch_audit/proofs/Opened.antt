@@ -24,7 +24,7 @@ use Rattle.audit_model.specs.Calls.{indexIf}
 use Rattle.audit_model.proofs.Booked.{refused-holds}
 use Rattle.audit_checks.specs.Opens.{OpeningRanked}
 use Rattle.audit_checks.proofs.Ranked.{unrefused, planned}
-use Rattle.audit_observe_read.specs.Sights.{wayIf}
+use Rattle.audit_observe_read.specs.Observed.{wayIf}
 use Rattle.audit_fragment.proofs.Opened.{way-lent}
 use Rattle.batch_lists.specs.declared.FragmentsAudit.{FragmentsAudit}
 use Rattle.batch_lists.specs.Lists.{FragmentLists, fragmentsIn, listsFit}

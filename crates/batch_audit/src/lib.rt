@@ -9,7 +9,7 @@ ghost use Rattle.index_model.specs.Index.{lentSequences};
 ghost use Rattle.audit_ledger.specs.Booking.{countersOf, leftCounters};
 ghost use Rattle.audit_model.specs.Settings.{auditSeed, auditOffset};
 ghost use Rattle.audit_model.specs.Calls.{lentHeld, lentIndex};
-ghost use Rattle.audit_observe_read.specs.Sights.{wayIf};
+ghost use Rattle.audit_observe_read.specs.Observed.{wayIf};
 ghost use Rattle.audit_tested.specs.Tested.{Tested};
 ghost use Rattle.batch_lists.specs.Lists.{lentReads, lentFragments};
 ghost use Rattle.batch_lists.specs.Listed.{AuditsList};

@@ -24,7 +24,7 @@ use Rattle.audit_model.specs.Fragment.{entriesLeft, testedBooked, testedRefusal
 use Rattle.audit_model.specs.Run.{Call}
 use Rattle.audit_model.proofs.Checking.{tested-checked}
 use Rattle.audit_model.proofs.Parts.{length-written}
-use Rattle.audit_observe_read.specs.Sights.{Observable}
+use Rattle.audit_observe_read.specs.Observed.{Observable}
 use Rattle.audit_tested.specs.Tested.{Tested}
 use Rattle.batch_lists.specs.Listed.{rowsIn, refusedRows, outcomeRows}
 use Rattle.batch_fragments.specs.Listed.{testedAnswer, testedNext}

@@ -6,7 +6,7 @@ ghost use Rattle.promises.specs.Slice.{old, new};
 ghost use Rattle.index_model.specs.Index.{lentSequences};
 ghost use Rattle.audit_ledger.specs.Booking.{countersOf, leftCounters};
 ghost use Rattle.audit_model.specs.Calls.{lentHeld, lentIndex};
-ghost use Rattle.audit_observe_read.specs.Sights.{wayIf};
+ghost use Rattle.audit_observe_read.specs.Observed.{wayIf};
 ghost use Rattle.audit_tested.specs.Tested.{Tested};
 ghost use Rattle.batch_lists.specs.Lists.{readLists, fragmentLists, lentReads, lentFragments, fragmentsIn};
 ghost use Rattle.batch_lists.specs.Listed.{callsOf};

@@ -2,6 +2,9 @@
 
 pub mod audits;
 pub mod inputs;
+#[rustfmt::skip]
+#[path = "../../../crates/jekaumeo/jekaumeo.rs"]
+pub mod jekaumeo;
 pub mod jobs;
 pub mod lent;
 pub mod model_audit;

@@ -2,7 +2,7 @@
 use native.Mathlib.Omega.{arith}
 use Rattle.index_model.specs.Index.{rankedSequences}
 use Rattle.map_every_start.specs.Entries.{entryCount}
-use Rattle.audit_observe_read.specs.Sights.{wayIf}
+use Rattle.audit_observe_read.specs.Observed.{wayIf}
 use Rattle.audit_observe_reads.proofs.Fragment.{known-within, both-within, one-refused, one-mapped, two-refused, two-mapped}
 use borrow.Author.Needs.{needs}
 use Rattle.audit_observe_reads.proofs.search_reads.Statement.{statement}

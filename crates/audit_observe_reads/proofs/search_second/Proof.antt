@@ -1,7 +1,7 @@
 -- `audit_observe_reads::search_second` meets its contract: the answer for the second read beside that for the first.
 use native.Mathlib.Omega.{arith}
 use Rattle.index_model.specs.Index.{rankedSequences}
-use Rattle.audit_observe_read.specs.Sights.{wayIf}
+use Rattle.audit_observe_read.specs.Observed.{wayIf}
 use Rattle.audit_observe_reads.proofs.Second.{second-refused, second-mapped}
 use borrow.Author.Needs.{needs}
 use Rattle.audit_observe_reads.proofs.search_second.Statement.{statement}

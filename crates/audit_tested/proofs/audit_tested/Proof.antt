@@ -7,7 +7,7 @@ use Rattle.lists.specs.Cut.{cut}
 use Rattle.index_model.specs.Index.{rankedSequences}
 use Rattle.map_every_start.specs.Entries.{entryCount}
 use Rattle.audit_model.specs.Calls.{heldOf, mateOf}
-use Rattle.audit_observe_read.specs.Sights.{wayIf}
+use Rattle.audit_observe_read.specs.Observed.{wayIf}
 use Rattle.audit_observe_reads.proofs.Fragment.{known-within}
 use Rattle.audit_tested.proofs.Booked.{raisable, audit-booked, audit-refused}
 use borrow.Author.Needs.{needs}

@@ -4,7 +4,7 @@ use mathlib.Core.Path.{sym, _∙_}
 use borrow.Author.Tests.{not-true, not-false}
 use Rattle.index_model.specs.Index.{rankedSequences}
 use Rattle.audit_model.specs.Calls.{heldOf, indexIf}
-use Rattle.audit_observe_read.specs.Sights.{wayIf}
+use Rattle.audit_observe_read.specs.Observed.{wayIf}
 use Rattle.batch_lists.specs.Lists.{readLists, fragmentLists}
 use Rattle.batch_audit.proofs.Fits.{lists-lent, unfit, fitting}
 use borrow.Author.Needs.{needs}

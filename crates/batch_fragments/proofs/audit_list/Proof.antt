@@ -4,7 +4,7 @@ use Prim.Native.Nat.{_-_}
 use lib.ListN.{length}
 use Rattle.index_model.specs.Index.{rankedSequences}
 use Rattle.audit_model.specs.Calls.{heldOf, indexIf}
-use Rattle.audit_observe_read.specs.Sights.{wayIf}
+use Rattle.audit_observe_read.specs.Observed.{wayIf}
 use Rattle.batch_lists.specs.Lists.{readLists}
 use Rattle.batch_fragments.proofs.Shares.{tested-alike}
 use Rattle.batch_fragments.proofs.Listing.{Going, start, rows-room, share-room, step, done}

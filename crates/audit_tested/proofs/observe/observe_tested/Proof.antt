@@ -5,7 +5,7 @@ use mathlib.Core.Logic.{⊎-elim}
 use mathlib.Core.List.{[]}
 use native.Mathlib.Omega.{arith}
 use Rattle.audit_model.specs.Calls.{heldOf, mateOf}
-use Rattle.audit_observe_read.specs.Sights.{wayIf}
+use Rattle.audit_observe_read.specs.Observed.{wayIf}
 use Rattle.audit_tested.proofs.Joining.{by-order}
 use Rattle.audit_tested.proofs.Observed.{reads-refused, ranked-lent, reads-observed}
 use borrow.Author.Needs.{needs}

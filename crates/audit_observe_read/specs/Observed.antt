@@ -31,7 +31,7 @@ pub record Observable (indexed : Bool) (q : ℕ) (bases ends ranked ks rs os : L
   pub index : indexed ≡ true → Indexed q (rankedSequences bases ends ranked) ks rs os
 
 -- a read that passed its checks: where it is searched, it has letters only, and no more than the bound
-pub record Sighted (searched : Bool) (read : List ℕ) : Type 0 where
+pub record ReadPassed (searched : Bool) (read : List ℕ) : Type 0 where
   pub letters-right : searched ≡ true → letters read ≡ true
   pub short : searched ≡ true → length read ≤ maxRead
 
