@@ -30,6 +30,7 @@ module _ {A : Type 0} (p : A → Bool) where
   every_at d (x ∷ xs) e (suc i) h = every_at d xs (and-true (p x) (every p xs) e).1 i (omega arith)
 
   pub every-∈ : (xs : List A) → every p xs ≡ true → (x : A) → x ∈ xs → p x ≡ true
+  every-∈ [] e x x4 = elim x4 [ ]
   every-∈ (y ∷ xs) e x (inl k) = ap p k ∙ (and-true (p y) (every p xs) e).0
   every-∈ (y ∷ xs) e x (inr m) = every-∈ xs (and-true (p y) (every p xs) e).1 x m
 

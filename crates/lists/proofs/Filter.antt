@@ -12,6 +12,7 @@ use Rattle.lists.proofs.Cases.{by_test}
 
 module _ {A : Type 0} (p : A → Bool) where
   pub ∈-filter : (x : A) (xs : List A) → x ∈ xs → p x ≡ true → x ∈ filter p xs
+  ∈-filter x [] x3 h = elim x3 [ ]
   ∈-filter x (y ∷ xs) (inl e) h = rw (← e, h) (inl refl)
   ∈-filter x (y ∷ xs) (inr m) h = go (p y) (∈-filter x xs m h)
     where
@@ -20,6 +21,7 @@ module _ {A : Type 0} (p : A → Bool) where
       go false k = k
 
   pub filter-∈ : (x : A) (xs : List A) → x ∈ filter p xs → (x ∈ xs) × (p x ≡ true)
+  filter-∈ x [] m = elim m [ ]
   filter-∈ x (y ∷ xs) m = go (p y) refl m (λ k. filter-∈ x xs k)
     where
       go : (b : Bool) → p y ≡ b → x ∈ cons_if b y (filter p xs) → (x ∈ filter p xs → (x ∈ xs) × (p x ≡ true)) → (x ∈ (y ∷ xs)) × (p x ≡ true)

@@ -12,6 +12,7 @@ use Rattle.lists.specs.Numbers.{numbers}
 use Rattle.lists.proofs.Cases.{by_test}
 
 pub numbers-∈ : (k n x : ℕ) → x ∈ numbers k n → (k ≤ x) × (x < k + n)
+numbers-∈ k zero x x3 = elim x3 [ ]
 numbers-∈ k (suc n) x (inl e) = (omega arith, omega arith)
 numbers-∈ k (suc n) x (inr m) = let h = numbers-∈ (suc k) n x m in (omega arith, omega arith)
 
