@@ -2,11 +2,7 @@
 use mathlib.Core.Path.{sym}
 use Prim.Native.Nat.{ℕ}
 use lib.ListN.{length-replicate}
-use Rattle.test_cases.proofs.reading.room.Statement.{statement}
-use Rattle.test_cases.proofs.reading.room.Tie as tie
+use Rattle.test_cases.proofs.reading.room.Goals as goal
 
-returns : tie.Need-returns
+pub returns : goal.returns
 returns c = sym (length-replicate {A = ℕ} 393216 0)
-
-pub room_spec : {M : Type 1} → statement M
-room_spec = tie.close (tie.spec returns)
