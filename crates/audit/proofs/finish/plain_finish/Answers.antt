@@ -1,0 +1,5 @@
+-- `audit::finish::plain_finish` meets its contract: it is that of the inner call, with seeds of 15 bases and qualities from 33 on.
+use Rattle.audit.proofs.finish.plain_finish.Goals as goal
+
+pub returns : goal.returns
+returns c = c.finish_audit.ensures

@@ -1,0 +1,11 @@
+-- `audit_book_answer::book_answer` meets its contract: the ledger and the counters with the reads of an answer.
+use Rattle.audit_book_answer.proofs.Answering.{answer_ready, answer_ledger, answer_held}
+use Rattle.audit_book_answer.proofs.book_answer.Goals as goal
+
+pub raise_answer-requires : goal.raise_answer-requires
+raise_answer-requires c = answer_ready _ _ _ _ _ _ c.requires
+
+pub returns : goal.returns
+returns c =
+    let s = c in
+    answer_held _ _ _ _ _ _ s.requires s.args.ordinal _ _ (answer_ledger _ _ _ _ _ _ s.requires _ c.post_answer-posted.ensures) c.raise_answer.ensures

@@ -1,0 +1,31 @@
+-- `audit_observe_fragment::observe_ranked` meets its contract: what was observed stands, or is refused 17.
+use native.Mathlib.Omega.{arith}
+use borrow.Author.Tests.{not-true, not-false}
+use Rattle.map_every_start.specs.Entries.{entry_count}
+use Rattle.audit_observe_reads.proofs.Fragment.{known_within}
+use Rattle.audit_observe_fragment.proofs.Observed.{ranked_postable, ranked_done, ranked_full}
+use Rattle.audit_observe_fragment.proofs.observe_ranked.Goals as goal
+
+pub overflow_mul-width : goal.overflow_mul-width
+overflow_mul-width c =
+    let a = c.args in
+    let h = known_within a.settings.mode (entry_count a.entries.now) c.share_of-width.result c.share_of-width.ensures in
+    omega arith
+
+pub post_answer-posted-requires : goal.post_answer-posted-requires
+post_answer-posted-requires c =
+    let start = c in
+    let a = start.args in
+    ranked_postable a.indexed a.q a.bases.now a.ends.now a.ranked.now a.keys.now a.ranks.now a.positions.now a.first.now a.second.now a.searched a.settings _ start.requires a.first-role a.second-role a.entries.now _ _ c.search_reads-answer.ensures _ c.share_of-width.ensures
+
+pub returns-then-not-posted : goal.returns-then-not-posted
+returns-then-not-posted c =
+    let start = c in
+    let a = start.args in
+    ranked_full a.indexed a.q a.bases.now a.ends.now a.ranked.now a.keys.now a.ranks.now a.positions.now a.first.now a.second.now a.searched a.settings _ start.requires a.first-role a.second-role a.entries.now _ _ c.search_reads-answer.ensures _ c.share_of-width.ensures a.ledger _ c.post_answer-posted.ensures (not-true _ c.if-not-posted.true) _ c.clear_entries.ensures 17 (omega arith)
+
+pub returns : goal.returns
+returns c =
+    let start = c in
+    let a = start.args in
+    ranked_done a.indexed a.q a.bases.now a.ends.now a.ranked.now a.keys.now a.ranks.now a.positions.now a.first.now a.second.now a.searched a.settings _ start.requires a.first-role a.second-role a.entries.now _ _ c.search_reads-answer.ensures _ c.share_of-width.ensures a.ledger _ c.post_answer-posted.ensures (not-false _ c.if-not-posted.false)

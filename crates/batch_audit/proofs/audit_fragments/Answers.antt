@@ -1,0 +1,38 @@
+-- `batch_audit::audit_fragments` meets its contract: the opening's checks refuse, or the list is audited in the targets that they ranked.
+use native.Mathlib.Omega.{arith}
+use Rattle.audit_ledger.specs.Booking.{counters_of}
+use Rattle.audit_model.specs.Calls.{held_of}
+use Rattle.audit_fragment.proofs.Opened.{tested}
+use Rattle.batch_lists.specs.Lists.{read_lists, fragment_lists}
+use Rattle.batch_audit.proofs.Opened.{opening_stands, within, prefix, opening_passes}
+use Rattle.batch_audit.proofs.audit_fragments.Goals as goal
+
+pub slice_bounds-ranked-end : goal.slice_bounds-ranked-end
+slice_bounds-ranked-end c =
+    let s = c in
+    let a = s.args in
+    within a.q a.offset (record { identifiers = a.identifiers.now; identifier_ends = a.identifier-ends.now; bases = a.bases.now; base_ends = a.base_ends_lem.now; marks = a.marks.now }) a.indexed a.keys.now a.ranks.now a.positions.now (held_of a.state a.placements.now a.singles.now a.multi.now) (fragment_lists a.ordinals.now a.counts.now (read_lists a.roles.now a.reads.now a.read-ends.now a.quality-marks.now a.qualities.now a.quality-ends.now)) a.rows.now a.entries.now _ _ c.check_opening-ranking.ensures s.requires.0 _ c.in-Ranked.is
+
+pub slice_bounds-audit_fitting-end : goal.slice_bounds-audit_fitting-end
+slice_bounds-audit_fitting-end c =
+    let s = c in
+    let a = s.args in
+    prefix a.q a.offset (record { identifiers = a.identifiers.now; identifier_ends = a.identifier-ends.now; bases = a.bases.now; base_ends = a.base_ends_lem.now; marks = a.marks.now }) a.indexed a.keys.now a.ranks.now a.positions.now (held_of a.state a.placements.now a.singles.now a.multi.now) (fragment_lists a.ordinals.now a.counts.now (read_lists a.roles.now a.reads.now a.read-ends.now a.quality-marks.now a.qualities.now a.quality-ends.now)) a.rows.now a.entries.now _ _ c.check_opening-ranking.ensures s.requires.0 _ c.in-Ranked.is
+
+pub audit_fitting-requires : goal.audit_fitting-requires
+audit_fitting-requires c =
+    let s = c in
+    let a = s.args in
+    tested a.q a.offset (record { identifiers = a.identifiers.now; identifier_ends = a.identifier-ends.now; bases = a.bases.now; base_ends = a.base_ends_lem.now; marks = a.marks.now }) a.indexed a.keys.now a.ranks.now a.positions.now a.state.settings (counters_of a.placements.now a.singles.now a.multi.now) _ _ c.check_opening-ranking.ensures s.requires.0 _ c.in-Ranked.is (omega (arith, c.check_opening-ranking.auto.ranked))
+
+pub returns-in-Refused : goal.returns-in-Refused
+returns-in-Refused c =
+    let s = c in
+    let a = s.args in
+    opening_stands a.q a.offset (record { identifiers = a.identifiers.now; identifier_ends = a.identifier-ends.now; bases = a.bases.now; base_ends = a.base_ends_lem.now; marks = a.marks.now }) a.indexed a.keys.now a.ranks.now a.positions.now (held_of a.state a.placements.now a.singles.now a.multi.now) (fragment_lists a.ordinals.now a.counts.now (read_lists a.roles.now a.reads.now a.read-ends.now a.quality-marks.now a.qualities.now a.quality-ends.now)) a.rows.now a.entries.now _ _ c.check_opening-ranking.ensures _ c.in-Refused.is
+
+pub returns-in-Ranked : goal.returns-in-Ranked
+returns-in-Ranked c =
+    let s = c in
+    let a = s.args in
+    opening_passes a.q a.offset (record { identifiers = a.identifiers.now; identifier_ends = a.identifier-ends.now; bases = a.bases.now; base_ends = a.base_ends_lem.now; marks = a.marks.now }) a.indexed a.keys.now a.ranks.now a.positions.now (held_of a.state a.placements.now a.singles.now a.multi.now) (fragment_lists a.ordinals.now a.counts.now (read_lists a.roles.now a.reads.now a.read-ends.now a.quality-marks.now a.qualities.now a.quality-ends.now)) a.rows.now a.entries.now _ _ c.check_opening-ranking.ensures s.requires.0 _ c.in-Ranked.is _ _ _ _ c.audit_fitting.ensures

@@ -1,0 +1,63 @@
+-- `catch_fields::put_totals` meets its contract.
+use native.Mathlib.Omega.{arith}
+use Rattle.catch_text.specs.Text.{spaced}
+use Rattle.catch_text.specs.Writing.{Adds}
+use Rattle.catch_fields.specs.Fields.{total_words}
+use Rattle.catch_text.proofs.Adding.{adds_both, adds_none}
+use Rattle.catch_text.proofs.Decimal.{decimal-room}
+use Rattle.catch_fields.proofs.put_totals.Goals as goal
+
+-- the bytes of totals that are told
+added : (c : tie.After-put-decimal3) → let s = c.before.before.before.before.before.before.before.before.before.before.before.before.before.before.before.before.before.before.before.before.before.before.before.before.before.before.before.before.before in Adds (spaced (total_words s.args.totals)) s.args.out.now s.args.at c.put-decimal3.new.0 c.put-decimal3.result
+added c =
+    let z5 = c.before.before.before.before in
+    let z4 = z5.before.before.before.before.before in
+    let z3 = z4.before.before.before.before in
+    let z2 = z3.before.before.before.before.before in
+    let z1 = z2.before.before.before.before in
+    rw z1.before.before.before.before.totals.given.1
+    (adds_both z1.put-bytes2.ensures
+    (adds_both z2.put-decimal.ensures
+    (adds_both z3.put-bytes3.ensures
+    (adds_both z4.put-decimal2.ensures
+    (adds_both z5.put-bytes4.ensures
+    (adds_both c.put-decimal3.ensures (adds_none _ _)))))))
+
+pub put_decimal-b-requires : goal.put_decimal-b-requires
+put_decimal-b-requires c =
+    let g = c.totals-1.given in
+    let k = c.in-Available.known_told-1-own in
+    omega (arith, decimal-room c.in-Available.t.placements (omega (arith, k)), decimal-room c.in-Available.t.singles (omega (arith, k)), decimal-room c.in-Available.t.multi (omega (arith, k)))
+
+pub put_bytes-c-requires : goal.put_bytes-c-requires
+put_bytes-c-requires c =
+    let g = c.totals-1.given in
+    let k = c.in-Available.known_told-1-own in
+    omega (arith, decimal-room c.in-Available.t.placements (omega (arith, k)), decimal-room c.in-Available.t.singles (omega (arith, k)), decimal-room c.in-Available.t.multi (omega (arith, k)))
+
+pub put_decimal-d-requires : goal.put_decimal-d-requires
+put_decimal-d-requires c =
+    let g = c.totals-1.given in
+    let k = c.in-Available.known_told-1-own in
+    omega (arith, decimal-room c.in-Available.t.placements (omega (arith, k)), decimal-room c.in-Available.t.singles (omega (arith, k)), decimal-room c.in-Available.t.multi (omega (arith, k)))
+
+pub put_bytes-e-requires : goal.put_bytes-e-requires
+put_bytes-e-requires c =
+    let g = c.totals-1.given in
+    let k = c.in-Available.known_told-1-own in
+    omega (arith, decimal-room c.in-Available.t.placements (omega (arith, k)), decimal-room c.in-Available.t.singles (omega (arith, k)), decimal-room c.in-Available.t.multi (omega (arith, k)))
+
+pub put_decimal-requires : goal.put_decimal-requires
+put_decimal-requires c =
+    let g = c.totals-1.given in
+    let k = c.in-Available.known_told-1-own in
+    omega (arith, decimal-room c.in-Available.t.placements (omega (arith, k)), decimal-room c.in-Available.t.singles (omega (arith, k)), decimal-room c.in-Available.t.multi (omega (arith, k)))
+
+pub returns-in-Unavailable : goal.returns-in-Unavailable
+returns-in-Unavailable c = record { adds = rw c.in-Unavailable.is c.put_bytes.ensures; room = omega arith }
+
+pub returns-in-Available : goal.returns-in-Available
+returns-in-Available c =
+    let g = c.totals-1.given in
+    let k = c.in-Available.known_told-1-own in
+    record { adds = added c; room = omega (arith, decimal-room c.in-Available.t.placements (omega (arith, k)), decimal-room c.in-Available.t.singles (omega (arith, k)), decimal-room c.in-Available.t.multi (omega (arith, k))) }

@@ -1,0 +1,31 @@
+-- `catch_fragment::tell_fragment` meets its contract: the fragment is audited, and the lines of its answer are written.
+use native.Mathlib.Omega.{arith}
+use Rattle.audit_model.specs.Calls.{held_of}
+use Rattle.audit_observe_reads.proofs.Fragment.{known_within}
+use Rattle.catch_fragment.proofs.Answered.{answer_lent, answer_written}
+use Rattle.catch_fragment.proofs.tell_fragment.Goals as goal
+
+pub overflow_mul-width : goal.overflow_mul-width
+overflow_mul-width c =
+    let s = c in
+    omega (arith, s.requires.whole, known_within s.args.state.settings.mode _ c.share_of-width.result c.share_of-width.ensures)
+
+pub audit_tested-audit-requires : goal.audit_tested-audit-requires
+audit_tested-audit-requires c = c.requires.tested
+
+pub put_answer-end-requires : goal.put_answer-end-requires
+put_answer-end-requires c =
+    let s = c in
+    let a = s.args in
+    let t = c.audit_tested-audit in
+    answer_lent a.bases.now a.base_ends_lem.now a.ranked.now a.keys.now a.ranks.now a.positions.now a.identifiers.now a.identifier-ends.now a.bytes.now a.head (held_of a.state a.placements.now a.singles.now a.multi.now) a.entries.now a.out.now a.at s.requires c.share_of-width.result c.share_of-width.ensures t.new.entries t.auto.entries _ _ _ t.result.answer t.ensures.observed
+
+pub returns : goal.returns
+returns c =
+    let s = c in
+    let a = s.args in
+    let t = c.audit_tested-audit in
+    record {
+      audited = t.ensures;
+      adds = answer_written a.bases.now a.base_ends_lem.now a.ranked.now a.keys.now a.ranks.now a.positions.now a.identifiers.now a.identifier-ends.now a.bytes.now a.head (held_of a.state a.placements.now a.singles.now a.multi.now) a.entries.now a.out.now a.at s.requires c.share_of-width.result c.share_of-width.ensures t.new.entries t.auto.entries _ _ _ t.result.answer t.ensures.observed _ _ c.put_answer-end.ensures;
+    }

@@ -1,0 +1,6 @@
+-- `index_seeds::keys::key_at` meets its contract: nothing is keyed yet.
+use Rattle.index_seeds.proofs.Keying.{digits_start}
+use Rattle.index_seeds.proofs.keys.key_at.Goals as goal
+
+pub key_from-requires : goal.key_from-requires
+key_from-requires c = let s = c in record { table = s.requires.table; seed_in = s.requires.seed_in; key_begun = digits_start _ _ _ }

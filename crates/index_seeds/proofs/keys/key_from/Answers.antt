@@ -1,0 +1,35 @@
+use native.Mathlib.Omega.{arith}
+use Rattle.index_seeds.proofs.Keying.{seed_end, digits_next, digits_end}
+use Rattle.index_seeds.proofs.keys.key_from.Goals as goal
+
+pub loop-i-init : goal.loop-i-init
+loop-i-init c = c.requires.key_begun
+
+pub overflow_add-start : goal.overflow_add-start
+overflow_add-start c = omega (arith, seed_end _ _ _ c.requires.seed_in)
+
+pub oriented_code-code-requires : goal.oriented_code-code-requires
+oriented_code-code-requires c = c.requires.table
+
+pub overflow_mul-key : goal.overflow_mul-key
+overflow_mul-key c =
+    let s = c in
+    let d = digits_next s.args.strand s.args.sequence.now s.args.start s.args.q _ _ s.requires.seed_in c.loop-i.invariant c.loop-i-test.true _ c.oriented_code-code.ensures in
+    omega (arith, d.room, d.small)
+
+pub overflow_add-key : goal.overflow_add-key
+overflow_add-key c =
+    let s = c in
+    let d = digits_next s.args.strand s.args.sequence.now s.args.start s.args.q _ _ s.requires.seed_in c.loop-i.invariant c.loop-i-test.true _ c.oriented_code-code.ensures in
+    omega (arith, d.room, d.small)
+
+pub loop-i-preserved : goal.loop-i-preserved
+loop-i-preserved c =
+    let s = c in
+    let d = digits_next s.args.strand s.args.sequence.now s.args.start s.args.q _ _ s.requires.seed_in c.loop-i.invariant c.loop-i-test.true _ c.oriented_code-code.ensures in
+    record { inside = omega (arith, d.next.inside); digits = omega (arith, d.next.digits) }
+
+pub returns : goal.returns
+returns c =
+    let s = c in
+    digits_end s.args.strand s.args.sequence.now s.args.start s.args.q _ _ s.requires.seed_in c.loop-i.invariant c.loop-i-test.false

@@ -1,0 +1,33 @@
+-- `map_places::differing::differs_at` meets its contract: one base that differs is enough.
+use mathlib.Core.Path.{◌≡◌, refl, sym, ◌∙◌}
+use Prim.Native.Nat.{◌+◌, ◌-◌}
+use native.Mathlib.Omega.{arith}
+use borrow.Author.Tests.{not-true}
+use Rattle.lists.proofs.Cases.{clash}
+use Rattle.lists.proofs.Every.{every_at}
+use Rattle.bases.specs.Base.{is_capital}
+use Rattle.bases.proofs.Bytes.{letter_capital}
+use Rattle.map_places.proofs.Comparing.{compared_differs}
+use Rattle.map_places.proofs.differing.differs_at.Goals as goal
+
+pub returns-then-place-start : goal.returns-then-place-start
+returns-then-place-start c = λ e. clash e refl
+
+pub returns-then-read-i : goal.returns-then-read-i
+returns-then-read-i c = λ e. clash e refl
+
+pub oriented_agrees-requires : goal.oriented_agrees-requires
+oriented_agrees-requires c =
+    let s = c in
+    record {
+      inside = omega (arith, c.if-read-i.false);
+      letter_right = letter_capital _ (every_at is_capital 0 s.args.sequence.now s.requires.capitals _ (omega (arith, s.requires.fits, c.if-read-i.false, c.if-place-start.false)));
+      letters_right = s.requires.letters;
+    }
+
+pub returns : goal.returns
+returns c =
+    let s = c in
+    let a = s.args in
+    let there : a.start + (a.place - a.start) ≡ a.place = omega (arith, c.if-place-start.false) in
+    λ e. compared_differs a.sequence.now a.start a.read.now a.strand s.requires (a.place - a.start) (omega (arith, c.if-read-i.false)) (rw there (sym c.oriented_agrees.ensures ∙ not-true _ e))

@@ -1,0 +1,16 @@
+-- `map_places::differing::place_of_doubt` stays within the sequence.
+use native.Mathlib.Omega.{arith}
+use Rattle.map_places.proofs.differing.place_of_doubt.Goals as goal
+
+pub agreement-requires : goal.agreement-requires
+agreement-requires c =
+    let s = c in
+    record {
+      sequence = s.requires.capitals;
+      read_right = s.requires.letters;
+      in_sequence = omega (arith, s.requires.fits, c.least-most.ensures);
+      in_read = omega (arith, c.least-most.ensures);
+    }
+
+pub overflow_add-result : goal.overflow_add-result
+overflow_add-result c = omega (arith, c.requires.fits, c.agreement.ensures.few, c.least-most.ensures)
