@@ -44,6 +44,9 @@ targets_count k (n ∷ ns) (s ∷ ss) [] e f = refl
 targets_count k (n ∷ ns) (s ∷ ss) (m ∷ ms) e f = ap suc (targets_count (suc k) ns ss ms (omega arith) (omega arith))
 
 targets-∈ : (k : ℕ) (ns ss : List (List ℕ)) (ms : List ℕ) (t : Target) → t ∈ targets_from k ns ss ms → (j : ℕ) × (j < length ns) × (t ≡ target_at k ns ss ms j)
+targets-∈ k [] ss ms t x' = elim x' [ ]
+targets-∈ k (n ∷ ns) [] ms t x3 = elim x3 [ ]
+targets-∈ k (n ∷ ns) (s ∷ ss) [] t x5 = elim x5 [ ]
 targets-∈ k (n ∷ ns) (s ∷ ss) (m ∷ ms) t (inl e) =
     let z : k ≡ k + 0 = omega arith in
     (0, omega arith, e ∙ ap (λ p. target p n m s) z)
