@@ -2,7 +2,6 @@
 use mathlib.Core.Path.{ap}
 use native.Mathlib.Omega.{arith}
 use lib.ListN.{length, length-drop}
-use borrow.Author.Tests.{not-false}
 use Rattle.lists.proofs.Tails.{tail_lent}
 use Rattle.audit_ledger.specs.Booking.{counters_of}
 use Rattle.audit_book_fragment.proofs.Fragments.{first_full, none_fittable, one_posted, second_full, groups_fittable, both_posted}
@@ -33,14 +32,14 @@ pub added_by-requires-2 : goal.added_by-requires-2
 added_by-requires-2 c =
     let z = c in
     let a = z.args in
-    let o = z.requires.second_postable (not-false _ c.if-not-two.false-raw) in
+    let o = z.requires.second_postable c.if-not-two.false in
     let lent = ap length (tail_lent a.width a.entries.now) in
     omega (arith, o.targeted.room, lent, length-drop a.width a.entries.now)
 
 pub post_read-both-requires : goal.post_read-both-requires
 post_read-both-requires c =
     let z = c in
-    let o = z.requires.second_postable (not-false _ c.if-not-two.false-raw) in
+    let o = z.requires.second_postable c.if-not-two.false in
     (o.tallied.role, o.tallied.state)
 
 pub returns-then-not-both : goal.returns-then-not-both
@@ -55,7 +54,7 @@ counters_fit-fits-requires-2 c =
     let z = c in
     let a = z.args in
     let k = counters_of a.placements.now a.singles.now a.multi.now in
-    let o = z.requires.second_postable (not-false _ c.if-not-two.false-raw) in
+    let o = z.requires.second_postable c.if-not-two.false in
     let lent = ap length (tail_lent a.width a.entries.now) in
     groups_fittable a.first a.second a.two a.width a.entries.now k z.requires _ _ (omega (arith, o.targeted.room, lent)) (λ i h. rw (tail_lent a.width a.entries.now) (o.targeted.inside i (omega (arith, h)))) (omega (arith, o.tallied.groups))
 

@@ -1,7 +1,6 @@
 -- `batch_audit::audit_fitting` meets its contract: lists that do not fit are refused, and others gone through.
 use native.Mathlib.Omega.{arith}
 use mathlib.Core.Path.{sym, ◌∙◌}
-use borrow.Author.Tests.{not-true, not-false}
 use Rattle.index_model.specs.Index.{ranked_sequences}
 use Rattle.audit_model.specs.Calls.{held_of, index_if}
 use Rattle.audit_observe_read.specs.Observed.{way_if}
@@ -12,7 +11,7 @@ use Rattle.batch_audit.proofs.audit_fitting.Goals as goal
 pub returns-then-not-lists_fit : goal.returns-then-not-lists_fit
 returns-then-not-lists_fit c =
     let a = c.args in
-    unfit a.offset (ranked_sequences a.bases.now a.ends.now a.ranked.now) (way_if a.indexed a.q) a.ranked.now (index_if a.indexed a.keys.now a.ranks.now a.positions.now) (held_of a.state a.placements.now a.singles.now a.multi.now) (fragment_lists a.ordinals.now a.counts.now (read_lists a.roles.now a.reads.now a.read_ends.now a.quality_marks.now a.qualities.now a.quality_ends.now)) a.rows.now a.entries.now (sym c.lists_fit.ensures ∙ not-true _ c.if-not-lists_fit.true-raw)
+    unfit a.offset (ranked_sequences a.bases.now a.ends.now a.ranked.now) (way_if a.indexed a.q) a.ranked.now (index_if a.indexed a.keys.now a.ranks.now a.positions.now) (held_of a.state a.placements.now a.singles.now a.multi.now) (fragment_lists a.ordinals.now a.counts.now (read_lists a.roles.now a.reads.now a.read_ends.now a.quality_marks.now a.qualities.now a.quality_ends.now)) a.rows.now a.entries.now (sym c.lists_fit.ensures ∙ c.if-not-lists_fit.true)
 
 pub overflow_mul-share : goal.overflow_mul-share
 overflow_mul-share c = omega (arith, c.share_of-share.ensures.2, c.type_inv.1.0)
@@ -20,9 +19,9 @@ overflow_mul-share c = omega (arith, c.share_of-share.ensures.2, c.type_inv.1.0)
 pub audit_list-after-requires : goal.audit_list-after-requires
 audit_list-after-requires c =
     let s = c in
-    let a = s.args in record { tested = s.requires; lists_lent = lists_lent (fragment_lists a.ordinals.now a.counts.now (read_lists a.roles.now a.reads.now a.read-ends.now a.quality-marks.now a.qualities.now a.quality-ends.now)) a.rows.now (sym c.lists_fit.ensures ∙ not-false _ c.if-not-lists_fit.false-raw) c.share_of-share.result a.entries.now c.share_of-share.ensures.0 }
+    let a = s.args in record { tested = s.requires; lists_lent = lists_lent (fragment_lists a.ordinals.now a.counts.now (read_lists a.roles.now a.reads.now a.read-ends.now a.quality-marks.now a.qualities.now a.quality-ends.now)) a.rows.now (sym c.lists_fit.ensures ∙ c.if-not-lists_fit.false) c.share_of-share.result a.entries.now c.share_of-share.ensures.0 }
 
 pub returns : goal.returns
 returns c =
     let a = c.args in
-    fitting a.offset (ranked_sequences a.bases.now a.ends.now a.ranked.now) (way_if a.indexed a.q) a.ranked.now (index_if a.indexed a.keys.now a.ranks.now a.positions.now) (held_of a.state a.placements.now a.singles.now a.multi.now) (fragment_lists a.ordinals.now a.counts.now (read_lists a.roles.now a.reads.now a.read_ends.now a.quality_marks.now a.qualities.now a.quality_ends.now)) a.rows.now a.entries.now (sym c.lists_fit.ensures ∙ not-false _ c.if-not-lists_fit.false-raw) c.share_of-share.result c.share_of-share.ensures.1 _ _ _ _ c.audit_list-after.ensures
+    fitting a.offset (ranked_sequences a.bases.now a.ends.now a.ranked.now) (way_if a.indexed a.q) a.ranked.now (index_if a.indexed a.keys.now a.ranks.now a.positions.now) (held_of a.state a.placements.now a.singles.now a.multi.now) (fragment_lists a.ordinals.now a.counts.now (read_lists a.roles.now a.reads.now a.read_ends.now a.quality_marks.now a.qualities.now a.quality_ends.now)) a.rows.now a.entries.now (sym c.lists_fit.ensures ∙ c.if-not-lists_fit.false) c.share_of-share.result c.share_of-share.ensures.1 _ _ _ _ c.audit_list-after.ensures

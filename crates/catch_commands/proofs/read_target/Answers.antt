@@ -51,7 +51,7 @@ pub returns-then-not-is_name : goal.returns-then-not-is_name
 returns-then-not-is_name c =
     λ k m h.
     let a = c.args in
-    target_misnamed k a.bytes.now _ _ (number c) a.targets a.held m h (omega arith) refl refl c.little_endian-count.ensures (fits c) (omega arith) (6 + get_or a.bytes.now 1 0 - 6) (omega arith) (sym c.is_name.ensures ∙ not-true _ c.if-not-is_name.true-raw)
+    target_misnamed k a.bytes.now _ _ (number c) a.targets a.held m h (omega arith) refl refl c.little_endian-count.ensures (fits c) (omega arith) (6 + get_or a.bytes.now 1 0 - 6) (omega arith) (sym c.is_name.ensures ∙ c.if-not-is_name.true)
 
 pub returns : goal.returns
 returns c =
@@ -59,4 +59,4 @@ returns c =
     let a = c.args in
     let e = c in
     let l = get_or a.bytes.now 1 0 in
-    (target_read k a.bytes.now (get_or a.bytes.now 0 0) l (number e) a.targets a.held m h (omega arith) refl refl e.little_endian-count.ensures (fits e) (omega arith) (6 + l - 6) (omega arith) (sym c.is_name.ensures ∙ not-false _ c.if-not-is_name.false-raw), target_within k a.bytes.now (get_or a.bytes.now 0 0) l (number e) a.targets a.held m h (omega arith) refl refl e.little_endian-count.ensures (fits e) (few e).0)
+    (target_read k a.bytes.now (get_or a.bytes.now 0 0) l (number e) a.targets a.held m h (omega arith) refl refl e.little_endian-count.ensures (fits e) (omega arith) (6 + l - 6) (omega arith) (sym c.is_name.ensures ∙ c.if-not-is_name.false), target_within k a.bytes.now (get_or a.bytes.now 0 0) l (number e) a.targets a.held m h (omega arith) refl refl e.little_endian-count.ensures (fits e) (few e).0)

@@ -4,7 +4,7 @@ use mathlib.Core.Bool.{true}
 use Prim.Native.Nat.{ℕ, ◌+◌, ◌-◌, ◌≤◌}
 use native.Mathlib.Omega.{arith}
 use lib.ListN.{get_or}
-use borrow.Author.Tests.{not-true, not-false}
+use borrow.Author.Tests.{not-false}
 use Rattle.catch_commands.specs.Commands.{read_fits}
 use Rattle.catch_fragments.proofs.Mates.{read_most, qualities_most, read_none, no_read, read_headless, read_refused, read_short, read_found}
 use Rattle.catch_fragments.proofs.read_read.Goals as goal
@@ -35,7 +35,7 @@ returns-then-left-lt7 c = let a = c.args in read_headless a.bytes.now a.at (omeg
 pub returns-then-not-read_fits : goal.returns-then-not-read_fits
 returns-then-not-read_fits c =
     let a = c.args in
-    read_refused a.bytes.now a.at _ _ c.little_endian-length.result (a.at + 7 - (a.at + 3)) (omega arith) (omega arith) refl refl c.little_endian-length.ensures (omega arith) (sym c.read_fits.ensures ∙ not-true _ c.if-not-read_fits.true-raw)
+    read_refused a.bytes.now a.at _ _ c.little_endian-length.result (a.at + 7 - (a.at + 3)) (omega arith) (omega arith) refl refl c.little_endian-length.ensures (omega arith) (sym c.read_fits.ensures ∙ c.if-not-read_fits.true)
 
 pub overflow_add-count : goal.overflow_add-count
 overflow_add-count c = omega (arith, few c)

@@ -1,7 +1,7 @@
 -- `catch_supply::open` meets its contract: another code is refused, else the step is as the job is opened.
 use mathlib.Core.Logic.{⊎_elim}
 use native.Mathlib.Omega.{arith}
-use borrow.Author.Tests.{eqb-true, eqb-false, not-true, not-false}
+use borrow.Author.Tests.{eqb-true, eqb-false, not-false}
 use Rattle.audit_ledger.specs.Booking.{counters_of}
 use Rattle.catch_supply.proofs.Supplying.{at_three, at_five, open_elsewhere, open_refuses, open_goes}
 use Rattle.catch_supply.proofs.open.Goals as goal
@@ -10,7 +10,7 @@ pub returns-then-code-ne5 : goal.returns-then-code-ne5
 returns-then-code-ne5 c =
     let s = c in
     let a = s.args in
-    open_elsewhere a.code (record { identifiers = a.identifiers.now; identifier_ends = a.identifier-ends.now; bases = a.bases.now; base_ends = a.base_ends_lem.now; marks = a.marks.now }) a.settings (counters_of a.placements.now a.singles.now a.multi.now) a.out.now a.at a.ranked.now a.keys.now a.ranks.now a.positions.now s.requires.1 _ _ (λ e. omega arith) (λ e. omega (arith, eqb-false a.code _ (not-true _ c.if-code-ne5.true-raw))) c.refuse.ensures
+    open_elsewhere a.code (record { identifiers = a.identifiers.now; identifier_ends = a.identifier-ends.now; bases = a.bases.now; base_ends = a.base_ends_lem.now; marks = a.marks.now }) a.settings (counters_of a.placements.now a.singles.now a.multi.now) a.out.now a.at a.ranked.now a.keys.now a.ranks.now a.positions.now s.requires.1 _ _ (λ e. omega arith) (λ e. omega (arith, eqb-false a.code _ c.if-code-ne5.true)) c.refuse.ensures
 
 pub returns-in-Refused : goal.returns-in-Refused
 returns-in-Refused c =

@@ -1,13 +1,12 @@
 -- `index_plan::rank_checked` meets its contract: the test of the seed length, and then the ranking.
 use mathlib.Core.Path.{sym, ◌∙◌}
-use borrow.Author.Tests.{not-true, not-false}
 use Rattle.index_plan.proofs.Planning.{seed_wrong, seed_fits}
 use Rattle.index_plan.proofs.rank_checked.Goals as goal
 
 pub returns-then-not-seed_length_right : goal.returns-then-not-seed_length_right
-returns-then-not-seed_length_right c = seed_wrong _ _ (sym c.seed_length_right.ensures ∙ not-true _ c.if-not-seed_length_right.true-raw) _
+returns-then-not-seed_length_right c = seed_wrong _ _ (sym c.seed_length_right.ensures ∙ c.if-not-seed_length_right.true) _
 
 pub returns : goal.returns
 returns c =
     let s = c in
-    seed_fits _ _ (sym s.seed_length_right.ensures ∙ not-false _ s.if-not-seed_length_right.false-raw) _ _ c.rank_targets.ensures
+    seed_fits _ _ (sym s.seed_length_right.ensures ∙ s.if-not-seed_length_right.false) _ _ c.rank_targets.ensures

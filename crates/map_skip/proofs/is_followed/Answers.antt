@@ -1,7 +1,6 @@
 -- `map_skip::is_followed` meets its contract: five tests, of which each may fail.
 use mathlib.Core.Path.{refl, sym, ap, ◌∙◌}
 use native.Mathlib.Omega.{arith}
-use borrow.Author.Tests.{not-false}
 use Rattle.lists.proofs.Cases.{clash}
 use Rattle.map_candidates.specs.Search.{fits}
 use lib.ListN.{length}
@@ -35,6 +34,6 @@ returns c =
       inside = omega (arith, c.if-cursor-i.false);
       early = omega (arith, c.if-limit-start.false);
       ranked = omega (arith, c.if-posting_rank-rank.false, c.posting_rank.ensures);
-      differs = c.differs_at.ensures (not-false _ c.if-not-differs_at.false-raw);
+      differs = c.differs_at.ensures c.if-not-differs_at.false;
       room = ap (fits a.sequence.now (length a.read.now) a.cursor.offset) (sym c.posting_position-position.ensures) ∙ sym c.has_room.ensures ∙ e;
     }

@@ -2,7 +2,6 @@
 use mathlib.Core.Path.{◌≡◌, sym, ap, ◌∙◌}
 use mathlib.Core.Bool.{not, cond}
 use lib.ListN.{length}
-use borrow.Author.Tests.{not-false}
 use Rattle.index_model.specs.Index.{ranked_sequences}
 use Rattle.map_every_start.proofs.Visiting.{fit_ranked, fit_inside, fit_capitals}
 use Rattle.map_skip.specs.Passing.{place_of, first_of}
@@ -27,7 +26,7 @@ place_of_doubt-place-requires c =
 pub pass_side-passed-requires : goal.pass_side-passed-requires
 pass_side-passed-requires c =
     let s = c in let a = s.args in
-    let waits = sym c.waits.ensures ∙ not-false _ c.if-not-waits.false-raw in
+    let waits = sym c.waits.ensures ∙ c.if-not-waits.false in
     let e : c.side-first.result ≡ first_of a.sides = c.side-first.ensures ∙ ap (λ b. cond b a.sides.plus a.sides.minus) c.plus_first-plus.ensures in record { searchable = s.requires.searchable; candidate_lent = record {
         waits = rw e (first_waits a.sides waits);
         inside = rw e (s.requires.sides_lent.first_inside waits);

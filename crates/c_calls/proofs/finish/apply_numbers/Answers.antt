@@ -1,14 +1,13 @@
 -- `c_calls::finish::apply_numbers` meets its contract: 26, or the rows of the targets.
 use mathlib.Core.Path.{sym, ◌∙◌}
-use borrow.Author.Tests.{not-true, not-false}
 use Rattle.c_calls.proofs.Telling.{apply_wrong, apply_told}
 use Rattle.c_calls.proofs.finish.apply_numbers.Goals as goal
 
 pub returns-then-not-is_sheet : goal.returns-then-not-is_sheet
-returns-then-not-is_sheet c = apply_wrong _ _ _ c.args.sheet.now c.args.rows.now (sym c.is_sheet.ensures ∙ not-true _ c.if-not-is_sheet.true-raw)
+returns-then-not-is_sheet c = apply_wrong _ _ _ c.args.sheet.now c.args.rows.now (sym c.is_sheet.ensures ∙ c.if-not-is_sheet.true)
 
 pub sheet_of-finished-requires : goal.sheet_of-finished-requires
-sheet_of-finished-requires c = sym c.is_sheet.ensures ∙ not-false _ c.if-not-is_sheet.false-raw
+sheet_of-finished-requires c = sym c.is_sheet.ensures ∙ c.if-not-is_sheet.false
 
 pub returns : goal.returns
-returns c = apply_told _ _ _ c.args.sheet.now c.args.rows.now (sym c.is_sheet.ensures ∙ not-false _ c.if-not-is_sheet.false-raw) _ c.sheet_of-finished.ensures c.apply_to_unitigs-answer.result _ c.apply_to_unitigs-answer.ensures _ c.number_of.ensures
+returns c = apply_told _ _ _ c.args.sheet.now c.args.rows.now (sym c.is_sheet.ensures ∙ c.if-not-is_sheet.false) _ c.sheet_of-finished.ensures c.apply_to_unitigs-answer.result _ c.apply_to_unitigs-answer.ensures _ c.number_of.ensures

@@ -1,6 +1,5 @@
 use native.Mathlib.Omega.{arith}
 use mathlib.Core.Path.{sym, ◌∙◌}
-use borrow.Author.Tests.{not-true, not-false}
 use Rattle.lists.proofs.Cut.{every_start, every_done, every_stop, every_go, ends_here}
 use Rattle.catalogue.specs.Catalogue.{proper_sequence}
 use Rattle.catalogue.proofs.bounds.all_proper.Goals as goal
@@ -29,12 +28,12 @@ slice_bounds-proper_sequence-end c =
 pub returns-then-not-proper_sequence : goal.returns-then-not-proper_sequence
 returns-then-not-proper_sequence c =
     let a = c.args in
-    every_stop proper_sequence a.ends.now a.bases.now _ _ c.loop-i.invariant c.loop-i-test.true (sym c.proper_sequence.ensures ∙ not-true _ c.if-not-proper_sequence.true-raw)
+    every_stop proper_sequence a.ends.now a.bases.now _ _ c.loop-i.invariant c.loop-i-test.true (sym c.proper_sequence.ensures ∙ c.if-not-proper_sequence.true)
 
 pub loop-i-preserved : goal.loop-i-preserved
 loop-i-preserved c =
     let a = c.args in
-    every_go proper_sequence a.ends.now a.bases.now _ _ c.loop-i.invariant c.loop-i-test.true (sym c.proper_sequence.ensures ∙ not-false _ c.if-not-proper_sequence.false-raw)
+    every_go proper_sequence a.ends.now a.bases.now _ _ c.loop-i.invariant c.loop-i-test.true (sym c.proper_sequence.ensures ∙ c.if-not-proper_sequence.false)
 
 pub returns : goal.returns
 returns c =

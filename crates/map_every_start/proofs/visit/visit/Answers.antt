@@ -1,7 +1,6 @@
 -- `map_every_start::visit::visit` meets its contract.
 use mathlib.Core.Path.{◌∙◌}
 use native.Mathlib.Omega.{arith}
-use borrow.Author.Tests.{not-true, not-false}
 use Rattle.index_model.specs.Index.{ranked_sequences}
 use Rattle.map_places.specs.Place.{place}
 use Rattle.map_every_start.proofs.Going.{place_differs, place_past, place-entered}
@@ -27,13 +26,13 @@ pub returns-then-not-stands_at : goal.returns-then-not-stands_at
 returns-then-not-stands_at c =
     let s = c in let a = s.args in let p = place a.rank a.start a.strand in
     let ss = ranked_sequences a.bases.now a.ends.now a.ranked.now in
-    place_differs ss _ _ _ p _ _ _ (fit_matches a.bases.now a.ends.now a.ranked.now a.read.now s.requires.searchable p s.requires.fits_at.0 _ c.ranked_sequence-sequence.ensures _ c.stands_at.ensures ∙ not-true _ c.if-not-stands_at.true-raw)
+    place_differs ss _ _ _ p _ _ _ (fit_matches a.bases.now a.ends.now a.ranked.now a.read.now s.requires.searchable p s.requires.fits_at.0 _ c.ranked_sequence-sequence.ensures _ c.stands_at.ensures ∙ c.if-not-stands_at.true)
 
 pub returns-then-bound-seen : goal.returns-then-bound-seen
 returns-then-bound-seen c =
     let s = c in let a = s.args in let p = place a.rank a.start a.strand in
     let ss = ranked_sequences a.bases.now a.ends.now a.ranked.now in
-    place_past ss _ _ _ p _ _ _ (fit_matches a.bases.now a.ends.now a.ranked.now a.read.now s.requires.searchable p s.requires.fits_at.0 _ c.ranked_sequence-sequence.ensures _ c.stands_at.ensures ∙ not-false _ c.if-not-stands_at.false-raw) (omega (arith, c.if-bound-seen.true, s.requires.fits_at.1.within))
+    place_past ss _ _ _ p _ _ _ (fit_matches a.bases.now a.ends.now a.ranked.now a.read.now s.requires.searchable p s.requires.fits_at.0 _ c.ranked_sequence-sequence.ensures _ c.stands_at.ensures ∙ c.if-not-stands_at.false) (omega (arith, c.if-bound-seen.true, s.requires.fits_at.1.within))
 
 pub offset_bounds-ranked-rank : goal.offset_bounds-ranked-rank
 offset_bounds-ranked-rank c =
@@ -59,5 +58,5 @@ returns c =
     let a = s.args in
     let p = place a.rank a.start a.strand in
     let ss = ranked_sequences a.bases.now a.ends.now a.ranked.now in
-    let k = place-entered ss a.ranked.now a.read.now a.bound p a.tally.comparisons a.tally.seen a.entries.now (fit_matches a.bases.now a.ends.now a.ranked.now a.read.now s.requires.searchable p s.requires.fits_at.0 _ c.ranked_sequence-sequence.ensures _ c.stands_at.ensures ∙ not-false _ c.if-not-stands_at.false-raw) (omega (arith, c.if-bound-seen.false)) in
+    let k = place-entered ss a.ranked.now a.read.now a.bound p a.tally.comparisons a.tally.seen a.entries.now (fit_matches a.bases.now a.ends.now a.ranked.now a.read.now s.requires.searchable p s.requires.fits_at.0 _ c.ranked_sequence-sequence.ensures _ c.stands_at.ensures ∙ c.if-not-stands_at.false) (omega (arith, c.if-bound-seen.false)) in
     rw (c.write_entry.ensures, c.end_of-end.ensures) k

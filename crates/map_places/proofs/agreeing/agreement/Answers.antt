@@ -1,6 +1,5 @@
 use mathlib.Core.Path.{sym, ◌∙◌}
 use native.Mathlib.Omega.{arith}
-use borrow.Author.Tests.{not-false}
 use Rattle.bases.specs.Read.{oriented}
 use Rattle.map_places.proofs.Alike.{agreed_one, letters_there}
 use Rattle.map_places.proofs.agreeing.agreement.Goals as goal
@@ -36,7 +35,7 @@ pub loop-k-preserved : goal.loop-k-preserved
 loop-k-preserved c =
     let a = c.args in
     let l = c.loop-k in
-    agreed_one a.sequence.now a.at (oriented a.strand a.read.now) a.from a.most l.k l.invariant c.loop-k-test.true (sym c.oriented_agrees.ensures ∙ not-false _ c.if-not-oriented_agrees.false-raw)
+    agreed_one a.sequence.now a.at (oriented a.strand a.read.now) a.from a.most l.k l.invariant c.loop-k-test.true (sym c.oriented_agrees.ensures ∙ c.if-not-oriented_agrees.false)
 
 pub returns : goal.returns
 returns c = c.loop-k.invariant

@@ -1,6 +1,5 @@
 use mathlib.Core.Path.{refl, sym, ◌∙◌}
 use native.Mathlib.Omega.{arith}
-use borrow.Author.Tests.{not-false}
 use Rattle.bases.specs.Read.{oriented}
 use Rattle.map_places.specs.Agreeing.{stretch}
 use Rattle.map_places.proofs.Alike.{agree_more, reach_part}
@@ -36,7 +35,7 @@ loop-k-preserved c =
     let l = c.loop-k in
     record {
       few = omega (arith, c.loop-k-test.true);
-      agree = agree_more a.sequence.now a.at (oriented a.strand a.read.now) a.from l.k stretch l.invariant.agree (sym c.stretch_agrees.ensures ∙ not-false _ c.if-not-stretch_agrees.false-raw);
+      agree = agree_more a.sequence.now a.at (oriented a.strand a.read.now) a.from l.k stretch l.invariant.agree (sym c.stretch_agrees.ensures ∙ c.if-not-stretch_agrees.false);
     }
 
 pub returns : goal.returns
