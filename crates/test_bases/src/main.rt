@@ -6,18 +6,18 @@
 ghost use Rattle.std.specs.Prelude.{◌≤◌, length};
 
 use bases::eligibility::Eligibility;
-use libc::STDIN_FILENO;
+use test_cases::reading::read_full;
 use test_cases::writing::{put, put_line, put_number};
 
-fn put_byte(b: u8) {
-    put_number(b"", b as u64);
-    put_number(b" ", bases::base::code(b));
-    put_line(b" ", bases::base::complement(b) as u64);
+fn put_byte(rt: &impl Print, b: u8) {
+    put_number(rt, b"", b as u64);
+    put_number(rt, b" ", bases::base::code(b));
+    put_line(rt, b" ", bases::base::complement(b) as u64);
 }
 
-fn put_bytes() {
+fn put_bytes(rt: &impl Print) {
     for b in 0..=255u8 {
-        put_byte(b);
+        put_byte(rt, b);
     }
 }
 
@@ -44,18 +44,18 @@ fn behind(place: usize, end: usize) -> usize
     if place < end { place + 1 } else { end }
 }
 
-fn put_answer(e: Eligibility) {
+fn put_answer(rt: &impl Print, e: Eligibility) {
     match e {
-        Eligibility::EmptyRead => put(b"refused 14\n"),
-        Eligibility::QualityLength => put(b"refused 15\n"),
-        Eligibility::PhredByte => put(b"refused 16\n"),
-        Eligibility::Ineligible => put(b"ineligible\n"),
-        Eligibility::Eligible => put(b"eligible\n"),
+        Eligibility::EmptyRead => put(rt, b"refused 14\n"),
+        Eligibility::QualityLength => put(rt, b"refused 15\n"),
+        Eligibility::PhredByte => put(rt, b"refused 16\n"),
+        Eligibility::Ineligible => put(rt, b"ineligible\n"),
+        Eligibility::Eligible => put(rt, b"eligible\n"),
     }
 }
 
 // Judges the read of one line.
-fn judge_line(line: &[u8]) {
+fn judge_line(rt: &impl Print, line: &[u8]) {
     if line.len() < 3 {
         return;
     }
@@ -69,27 +69,25 @@ fn judge_line(line: &[u8]) {
     let start = behind(space, end);
     let read = &line[3..space];
     let qualities = &line[start..];
-    put_answer(bases::eligibility::judge_read(
-        read,
-        qualities,
-        line[2] == b'+',
-        lowest - offset,
-        offset,
-    ));
+    put_answer(
+        rt,
+        bases::eligibility::judge_read(read, qualities, line[2] == b'+', lowest - offset, offset),
+    );
 }
 
-fn judge_lines(s: &[u8]) {
+fn judge_lines(rt: &impl Print, s: &[u8]) {
     let mut at = 0;
     while at < s.len() {
         let end = find(s, at, s.len(), b'\n');
-        judge_line(&s[at..end]);
+        judge_line(rt, &s[at..end]);
         at = end + 1;
     }
 }
 
-fn main() {
-    put_bytes();
-    let mut buffer = io::large_buffer();
-    let n = io::read_full(STDIN_FILENO, &mut buffer);
-    judge_lines(&buffer[0..n]);
+fn main(rt: HostRuntime) {
+    put_bytes(&rt);
+    let mut buffer = [0u8; 65536];
+    let mut input = rt.stdin();
+    let n = read_full(&mut input, &mut buffer);
+    judge_lines(&rt, &buffer[0..n]);
 }

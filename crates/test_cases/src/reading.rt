@@ -1,6 +1,8 @@
 // Cases, and numbers of two or eight bytes in them, the low byte first.
 ghost use Rattle.std.specs.Prelude.{◌+◌, ◌*◌, ◌<◌, ◌≤◌, ◌≡◌, length};
 
+use std::io::Read;
+
 pub fn at_most(n: usize, most: usize) -> usize
     ensures { result ≤ most }
 {
@@ -47,6 +49,21 @@ pub fn part_end(s: &[u8], from: usize, n: usize) -> usize
     ensures { (from ≤ result) × (result ≤ length s.now) }
 {
     from + at_most(n, s.len() - from)
+}
+
+// Reads until the block is full, the input ends or a read fails, and tells how many bytes stand at its front.
+pub fn read_full<R: Read>(input: &mut R, block: &mut [u8]) -> usize
+    ensures { result ≤ length block.new }
+{
+    let mut done = 0;
+    while done < block.len() {
+        match input.read(&mut block[done..]) {
+            Ok(0) => return done,
+            Ok(n) => done += n,
+            Err(_) => return done,
+        }
+    }
+    done
 }
 
 // Room for a block of standard input.

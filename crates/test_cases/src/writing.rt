@@ -1,29 +1,27 @@
-// Words and numbers written to standard output.
-use libc::STDOUT_FILENO;
-
-pub fn put(text: &[u8]) {
-    io::write_all(STDOUT_FILENO, text);
+// Words and numbers written to standard output. What cannot be written is left out.
+pub fn put(rt: &impl Print, text: &[u8]) {
+    let _ = rt.write_all(text);
 }
 
 // A number behind a word.
-pub fn put_number(before: &[u8], n: u64) {
-    put(before);
-    io::print_decimal(STDOUT_FILENO, n);
+pub fn put_number(rt: &impl Print, before: &[u8], n: u64) {
+    put(rt, before);
+    let _ = rt.print(n);
 }
 
 // A number behind a word, at the end of a line.
-pub fn put_line(before: &[u8], n: u64) {
-    put_number(before, n);
-    put(b"\n");
+pub fn put_line(rt: &impl Print, before: &[u8], n: u64) {
+    put_number(rt, before, n);
+    put(rt, b"\n");
 }
 
 // A line of numbers behind a word.
-pub fn put_numbers(word: &[u8], numbers: &[u64]) {
-    put(word);
+pub fn put_numbers(rt: &impl Print, word: &[u8], numbers: &[u64]) {
+    put(rt, word);
     let mut i = 0;
     while i < numbers.len() {
-        put_number(b" ", numbers[i]);
+        put_number(rt, b" ", numbers[i]);
         i += 1;
     }
-    put(b"\n");
+    put(rt, b"\n");
 }

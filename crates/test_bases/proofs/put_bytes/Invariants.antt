@@ -3,7 +3,7 @@ use Prim.Native.Nat.{◌≤◌, ◌-◌}
 use Rattle.test_bases.proofs.put_bytes.Given as goal
 
 abbrev pub invariant-loop-b : goal.invariant-loop-b
-invariant-loop-b l = l.b ≤ 255
+invariant-loop-b g l = l.b ≤ 255
 
 abbrev pub decreases-loop-b : goal.decreases-loop-b
-decreases-loop-b l = 255 - l.b
+decreases-loop-b g l = 255 - l.b
