@@ -1,27 +1,8 @@
 -- `catch_fields::put_totals` meets its contract.
 use native.Mathlib.Omega.{arith}
-use Rattle.catch_text.specs.Text.{spaced}
-use Rattle.catch_text.specs.Writing.{Adds}
-use Rattle.catch_fields.specs.Fields.{total_words}
 use Rattle.catch_text.proofs.Adding.{adds_both, adds_none}
 use Rattle.catch_text.proofs.Decimal.{decimal-room}
 use Rattle.catch_fields.proofs.put_totals.Goals as goal
-
--- the bytes of totals that are told
-added : (c : tie.After-put-decimal3) → let s = c.before.before.before.before.before.before.before.before.before.before.before.before.before.before.before.before.before.before.before.before.before.before.before.before.before.before.before.before.before in Adds (spaced (total_words s.args.totals)) s.args.out.now s.args.at c.put-decimal3.new.0 c.put-decimal3.result
-added c =
-    let z5 = c.before.before.before.before in
-    let z4 = z5.before.before.before.before.before in
-    let z3 = z4.before.before.before.before in
-    let z2 = z3.before.before.before.before.before in
-    let z1 = z2.before.before.before.before in
-    rw z1.before.before.before.before.totals.given.1
-    (adds_both z1.put-bytes2.ensures
-    (adds_both z2.put-decimal.ensures
-    (adds_both z3.put-bytes3.ensures
-    (adds_both z4.put-decimal2.ensures
-    (adds_both z5.put-bytes4.ensures
-    (adds_both c.put-decimal3.ensures (adds_none _ _)))))))
 
 pub put_decimal-b-requires : goal.put_decimal-b-requires
 put_decimal-b-requires c =
@@ -58,6 +39,19 @@ returns-in-Unavailable c = record { adds = rw c.in-Unavailable.is c.put_bytes.en
 
 pub returns-in-Available : goal.returns-in-Available
 returns-in-Available c =
+    let added =
+    let z5 = c in
+    let z4 = z5 in
+    let z3 = z4 in
+    let z2 = z3 in
+    let z1 = z2 in
+    rw z1.in-Available.is
+    (adds_both z1.put_bytes-a.ensures
+    (adds_both z2.put_decimal-b.ensures
+    (adds_both z3.put_bytes-c.ensures
+    (adds_both z4.put_decimal-d.ensures
+    (adds_both z5.put_bytes-e.ensures
+    (adds_both c.put_decimal.ensures (adds_none _ _))))))) in
     let g = c.totals-1.given in
     let k = c.in-Available.known_told-1-own in
     record { adds = added c; room = omega (arith, decimal-room c.in-Available.t.placements (omega (arith, k)), decimal-room c.in-Available.t.singles (omega (arith, k)), decimal-room c.in-Available.t.multi (omega (arith, k))) }

@@ -3,92 +3,114 @@ use mathlib.Core.List.{[], ◌∷◌}
 use native.Mathlib.Nat.{le_refl}
 use lib.Dec.{lit≤}
 use Rattle.catch_text.specs.Text.{text, decimal}
-use Rattle.catch_text.specs.Writing.{Adds}
 use Rattle.catch_text.proofs.Adding.{adds_both}
 use Rattle.catch_text.proofs.Decimal.{decimal-room}
 use Rattle.audit_model.specs.Settings.{role_number}
 use Rattle.catch_fields.specs.Fields.{role_word}
-use Rattle.catch_lines.specs.Lines.{count_line}
-use Rattle.catch_lines.proofs.Lining.{Reached, reached_none, reached_more, reached_most, room_left, reached-line, adds_line}
+use Rattle.catch_lines.proofs.Lining.{reached_none, reached_more, reached_most, room_left, reached-line, adds_line}
 use Rattle.catch_lines.proofs.put_count.Goals as goal
-
--- its bytes
-added : (c : tie.After-put-bytes4) → let s = c.before.before.before.before.before.before.before.before.before.before.before.before.before.before.before.before.before.before.before.before.before.before.before.before.before.before.before.before.before.before.before in Adds (count_line (role_number s.args.role) s.args.state s.args.count) s.args.out.now s.args.at c.put-bytes4.new.0 c.put-bytes4.result
-added c =
-    let z6 = c.before.before.before.before.before in
-    let z5 = z6.before.before.before.before in
-    let z4 = z5.before.before.before.before.before in
-    let z3 = z4.before.before.before.before in
-    let z2 = z3.before.before.before.before.before in
-    let z1 = z2.before.before.before.before in
-    let s = z1.before.before.before.before in
-    adds_line (text "S") (role_word (role_number s.args.role) ∷ decimal s.args.state ∷ decimal s.args.count ∷ [])
-    (adds_both z1.put-bytes.ensures
-    (adds_both z2.put-role.ensures.adds
-    (adds_both z3.put-bytes2.ensures
-    (adds_both z4.put-decimal.ensures
-    (adds_both z5.put-bytes3.ensures
-    (adds_both z6.put-decimal2.ensures
-    c.put-bytes4.ensures))))))
-
--- the room that is left
-reached-1 : (c : tie.After-put-bytes) → let s = c.before.before.before.before in Reached 0 2 s.args.out.now s.args.at c.put-bytes.new.0 c.put-bytes.result
-reached-1 c = reached_more (reached_none _ _) 2 c.put-bytes.ensures (lit≤ tt) c.put-bytes.auto.0
-
-reached-2 : (c : tie.After-put-role) → let s = c.before.before.before.before.before.before.before.before in Reached 0 4 s.args.out.now s.args.at c.put-role.new.0 c.put-role.result
-reached-2 c = reached_most (reached-1 c.before.before.before.before) 2 c.put-role.ensures c.put-role.auto.0
-
-reached-3 : (c : tie.After-put-bytes2) → let s = c.before.before.before.before.before.before.before.before.before.before.before.before.before in Reached 0 5 s.args.out.now s.args.at c.put-bytes2.new.0 c.put-bytes2.result
-reached-3 c = reached_more (reached-2 c.before.before.before.before.before) 1 c.put-bytes2.ensures (lit≤ tt) c.put-bytes2.auto.0
-
-reached-4 : (c : tie.After-put-decimal) → let s = c.before.before.before.before.before.before.before.before.before.before.before.before.before.before.before.before.before in Reached 0 25 s.args.out.now s.args.at c.put-decimal.new.0 c.put-decimal.result
-reached-4 c =
-    let s = c.before.before.before.before.before.before.before.before.before.before.before.before.before.before.before.before.before in
-    reached_more (reached-3 c.before.before.before.before) 20 c.put-decimal.ensures (decimal-room s.args.state s.ranges.state.fits) c.put-decimal.auto.0
-
-reached-5 : (c : tie.After-put-bytes3) → let s = c.before.before.before.before.before.before.before.before.before.before.before.before.before.before.before.before.before.before.before.before.before.before in Reached 0 26 s.args.out.now s.args.at c.put-bytes3.new.0 c.put-bytes3.result
-reached-5 c = reached_more (reached-4 c.before.before.before.before.before) 1 c.put-bytes3.ensures (lit≤ tt) c.put-bytes3.auto.0
-
-reached-6 : (c : tie.After-put-decimal2) → let s = c.before.before.before.before.before.before.before.before.before.before.before.before.before.before.before.before.before.before.before.before.before.before.before.before.before.before in Reached 0 46 s.args.out.now s.args.at c.put-decimal2.new.0 c.put-decimal2.result
-reached-6 c =
-    let s = c.before.before.before.before.before.before.before.before.before.before.before.before.before.before.before.before.before.before.before.before.before.before.before.before.before.before in
-    reached_more (reached-5 c.before.before.before.before) 20 c.put-decimal2.ensures (decimal-room s.args.count s.ranges.count.fits) c.put-decimal2.auto.0
-
-reached-7 : (c : tie.After-put-bytes4) → let s = c.before.before.before.before.before.before.before.before.before.before.before.before.before.before.before.before.before.before.before.before.before.before.before.before.before.before.before.before.before.before.before in Reached 0 47 s.args.out.now s.args.at c.put-bytes4.new.0 c.put-bytes4.result
-reached-7 c = reached_more (reached-6 c.before.before.before.before.before) 1 c.put-bytes4.ensures (lit≤ tt) c.put-bytes4.auto.0
 
 pub put_role-b-requires : goal.put_role-b-requires
 put_role-b-requires c =
+    let reached-1 = reached_more (reached_none _ _) 2 c.put_bytes-a.ensures (lit≤ tt) c.put_bytes-a.auto.out in
     let s = c in
-    room_left (reached-1 c) (le_refl 2) (lit≤ tt) s.requires
+    room_left reached-1 (le_refl 2) (lit≤ tt) s.requires
 
 pub put_bytes-c-requires : goal.put_bytes-c-requires
 put_bytes-c-requires c =
+    let reached-1 = reached_more (reached_none _ _) 2 c.put_bytes-a.ensures (lit≤ tt) c.put_bytes-a.auto.out in
+    let reached-2 = reached_most reached-1 2 c.put_role-b.ensures c.put_role-b.auto.out in
     let s = c in
-    room_left (reached-2 c) (le_refl 1) (lit≤ tt) s.requires
+    room_left reached-2 (le_refl 1) (lit≤ tt) s.requires
 
 pub put_decimal-d-requires : goal.put_decimal-d-requires
 put_decimal-d-requires c =
+    let reached-1 = reached_more (reached_none _ _) 2 c.put_bytes-a.ensures (lit≤ tt) c.put_bytes-a.auto.out in
+    let reached-2 = reached_most reached-1 2 c.put_role-b.ensures c.put_role-b.auto.out in
+    let reached-3 = reached_more reached-2 1 c.put_bytes-c.ensures (lit≤ tt) c.put_bytes-c.auto.out in
     let s = c in
-    room_left (reached-3 c) (decimal-room s.args.state s.ranges.state.fits) (lit≤ tt) s.requires
+    room_left reached-3 (decimal-room s.args.state s.ranges.state.fits) (lit≤ tt) s.requires
 
 pub put_bytes-e-requires : goal.put_bytes-e-requires
 put_bytes-e-requires c =
+    let reached-1 = reached_more (reached_none _ _) 2 c.put_bytes-a.ensures (lit≤ tt) c.put_bytes-a.auto.out in
+    let reached-2 = reached_most reached-1 2 c.put_role-b.ensures c.put_role-b.auto.out in
+    let reached-3 = reached_more reached-2 1 c.put_bytes-c.ensures (lit≤ tt) c.put_bytes-c.auto.out in
+    let reached-4 =
     let s = c in
-    room_left (reached-4 c) (le_refl 1) (lit≤ tt) s.requires
+    reached_more reached-3 20 c.put_decimal-d.ensures (decimal-room s.args.state s.ranges.state.fits) c.put_decimal-d.auto.out in
+    let s = c in
+    room_left reached-4 (le_refl 1) (lit≤ tt) s.requires
 
 pub put_decimal-f-requires : goal.put_decimal-f-requires
 put_decimal-f-requires c =
+    let reached-1 = reached_more (reached_none _ _) 2 c.put_bytes-a.ensures (lit≤ tt) c.put_bytes-a.auto.out in
+    let reached-2 = reached_most reached-1 2 c.put_role-b.ensures c.put_role-b.auto.out in
+    let reached-3 = reached_more reached-2 1 c.put_bytes-c.ensures (lit≤ tt) c.put_bytes-c.auto.out in
+    let reached-4 =
     let s = c in
-    room_left (reached-5 c) (decimal-room s.args.count s.ranges.count.fits) (lit≤ tt) s.requires
+    reached_more reached-3 20 c.put_decimal-d.ensures (decimal-room s.args.state s.ranges.state.fits) c.put_decimal-d.auto.out in
+    let reached-5 = reached_more reached-4 1 c.put_bytes-e.ensures (lit≤ tt) c.put_bytes-e.auto.out in
+    let s = c in
+    room_left reached-5 (decimal-room s.args.count s.ranges.count.fits) (lit≤ tt) s.requires
 
 pub put_bytes-requires : goal.put_bytes-requires
 put_bytes-requires c =
+    let reached-1 = reached_more (reached_none _ _) 2 c.put_bytes-a.ensures (lit≤ tt) c.put_bytes-a.auto.out in
+    let reached-2 = reached_most reached-1 2 c.put_role-b.ensures c.put_role-b.auto.out in
+    let reached-3 = reached_more reached-2 1 c.put_bytes-c.ensures (lit≤ tt) c.put_bytes-c.auto.out in
+    let reached-4 =
     let s = c in
-    room_left (reached-6 c) (le_refl 1) (lit≤ tt) s.requires
+    reached_more reached-3 20 c.put_decimal-d.ensures (decimal-room s.args.state s.ranges.state.fits) c.put_decimal-d.auto.out in
+    let reached-5 = reached_more reached-4 1 c.put_bytes-e.ensures (lit≤ tt) c.put_bytes-e.auto.out in
+    let reached-6 =
+    let s = c in
+    reached_more reached-5 20 c.put_decimal-f.ensures (decimal-room s.args.count s.ranges.count.fits) c.put_decimal-f.auto.out in
+    let s = c in
+    room_left reached-6 (le_refl 1) (lit≤ tt) s.requires
 
 pub shape_of-out : goal.shape_of-out
-shape_of-out c = (reached-7 c).sized
+shape_of-out c =
+    let reached-1 = reached_more (reached_none _ _) 2 c.put_bytes-a.ensures (lit≤ tt) c.put_bytes-a.auto.out in
+    let reached-2 = reached_most reached-1 2 c.put_role-b.ensures c.put_role-b.auto.out in
+    let reached-3 = reached_more reached-2 1 c.put_bytes-c.ensures (lit≤ tt) c.put_bytes-c.auto.out in
+    let reached-4 =
+    let s = c in
+    reached_more reached-3 20 c.put_decimal-d.ensures (decimal-room s.args.state s.ranges.state.fits) c.put_decimal-d.auto.out in
+    let reached-5 = reached_more reached-4 1 c.put_bytes-e.ensures (lit≤ tt) c.put_bytes-e.auto.out in
+    let reached-6 =
+    let s = c in
+    reached_more reached-5 20 c.put_decimal-f.ensures (decimal-room s.args.count s.ranges.count.fits) c.put_decimal-f.auto.out in
+    let reached-7 = reached_more reached-6 1 c.put_bytes.ensures (lit≤ tt) c.put_bytes.auto.out in
+    reached-7.sized
 
 pub returns : goal.returns
-returns c = reached-line (reached-7 c) (lit≤ tt) (added c)
+returns c =
+    let added =
+    let z6 = c in
+    let z5 = z6 in
+    let z4 = z5 in
+    let z3 = z4 in
+    let z2 = z3 in
+    let z1 = z2 in
+    let s = z1 in
+    adds_line (text "S") (role_word (role_number s.args.role) ∷ decimal s.args.state ∷ decimal s.args.count ∷ [])
+    (adds_both z1.put_bytes-a.ensures
+    (adds_both z2.put_role-b.ensures.adds
+    (adds_both z3.put_bytes-c.ensures
+    (adds_both z4.put_decimal-d.ensures
+    (adds_both z5.put_bytes-e.ensures
+    (adds_both z6.put_decimal-f.ensures
+    c.put_bytes.ensures)))))) in
+    let reached-1 = reached_more (reached_none _ _) 2 c.put_bytes-a.ensures (lit≤ tt) c.put_bytes-a.auto.out in
+    let reached-2 = reached_most reached-1 2 c.put_role-b.ensures c.put_role-b.auto.out in
+    let reached-3 = reached_more reached-2 1 c.put_bytes-c.ensures (lit≤ tt) c.put_bytes-c.auto.out in
+    let reached-4 =
+    let s = c in
+    reached_more reached-3 20 c.put_decimal-d.ensures (decimal-room s.args.state s.ranges.state.fits) c.put_decimal-d.auto.out in
+    let reached-5 = reached_more reached-4 1 c.put_bytes-e.ensures (lit≤ tt) c.put_bytes-e.auto.out in
+    let reached-6 =
+    let s = c in
+    reached_more reached-5 20 c.put_decimal-f.ensures (decimal-room s.args.count s.ranges.count.fits) c.put_decimal-f.auto.out in
+    let reached-7 = reached_more reached-6 1 c.put_bytes.ensures (lit≤ tt) c.put_bytes.auto.out in
+    reached-line reached-7 (lit≤ tt) added
