@@ -1,44 +1,31 @@
 -- `index_seeds::keys::key_next` meets its contract, by the step of a key.
-use native.Mathlib.Omega.{arith}
-use Prim.Native.Nat.{◌+◌}
+use Rattle.std.proofs.Common.{◌≡◌, List, ℕ, ◌+◌, get_or, arith}
+use Rattle.bases.specs.Base.{code_of}
 use Rattle.bases.specs.Read.{oriented}
-use Rattle.index_seeds.proofs.Keying.{Step, step, seed_end, seed_oriented}
-use Rattle.index_seeds.proofs.keys.key_next.Reads as reads
-use Rattle.bases.proofs.strand.oriented_code.Reads as code_Reads
+use Rattle.index_seeds.specs.Key.{SeedIn, KeyHeld}
+use Rattle.index_seeds.proofs.Keying.{Step, step, seed_oriented}
 use Rattle.index_seeds.proofs.keys.key_next.Goals as goal
 
 -- the step from the key at the start to the next one
-stepped : (c : lts.After-oriented-code2 (code_Reads.Asked, code_Reads.Learnt) reads.Pre reads.Post)
-    → let a = c.before.before.before.args in
-    Step (oriented a.strand a.sequence.now) a.start a.q a.high a.key c.before.oriented-code.result c.oriented-code2.result
-stepped c =
-    let s = c.before.before.before in
-    let a = s.args in
-    let w = seed_oriented a.strand a.sequence.now a.q (a.start + 1) s.requires.1.0 in
-    let first = c.before.oriented-code.ensures in
-    let last = c.oriented-code2.ensures in
-    step (oriented a.strand a.sequence.now) a.start a.q a.high a.key _ _ w s.requires.1.1 (omega (arith, first)) (omega (arith, last))
-
-pub oriented_code-first-requires : goal.oriented_code-first-requires
-oriented_code-first-requires c = c.requires.table
-
-pub overflow_add-start : goal.overflow_add-start
-overflow_add-start c = omega (arith, seed_end _ _ _ c.requires.seed_in)
-
-pub oriented_code-last-requires : goal.oriented_code-last-requires
-oriented_code-last-requires c = c.requires.table
+stepped : (strand : ℕ) (s : List ℕ) (start q high key first last : ℕ)
+    → SeedIn s q (start + 1) → KeyHeld (oriented strand s) q start high key
+    → first ≡ code_of (get_or (oriented strand s) start 0) → last ≡ code_of (get_or (oriented strand s) (start + q) 0)
+    → Step (oriented strand s) start q high key first last
+stepped strand s start q high key first last w k f l = step (oriented strand s) start q high key first last (seed_oriented strand s q (start + 1) w) k f l
 
 pub overflow_mul-result : goal.overflow_mul-result
-overflow_mul-result c = omega (arith, (stepped c).digit, (stepped c).ranges)
+overflow_mul-result c = omega (arith, (stepped _ _ _ _ _ _ _ _ c.requires.seed_in c.requires.key_held c.oriented_code-first.ensures c.oriented_code-last.ensures).digit, c.ranges)
 
 pub overflow_sub-result : goal.overflow_sub-result
-overflow_sub-result c = omega (arith, (stepped c).digit)
+overflow_sub-result c = (stepped _ _ _ _ _ _ _ _ c.requires.seed_in c.requires.key_held c.oriented_code-first.ensures c.oriented_code-last.ensures).digit
 
 pub overflow_mul-result-2 : goal.overflow_mul-result-2
-overflow_mul-result-2 c = omega (arith, (stepped c).room)
+overflow_mul-result-2 c = omega (arith, (stepped _ _ _ _ _ _ _ _ c.requires.seed_in c.requires.key_held c.oriented_code-first.ensures c.oriented_code-last.ensures).room)
 
 pub overflow_add-result : goal.overflow_add-result
-overflow_add-result c = omega (arith, (stepped c).room, (stepped c).small)
+overflow_add-result c =
+    let s = stepped _ _ _ _ _ _ _ _ c.requires.seed_in c.requires.key_held c.oriented_code-first.ensures c.oriented_code-last.ensures in
+    omega (arith, s.room, s.small)
 
 pub returns : goal.returns
-returns c = omega (arith, (stepped c).next)
+returns c = (stepped _ _ _ _ _ _ _ _ c.requires.seed_in c.requires.key_held c.oriented_code-first.ensures c.oriented_code-last.ensures).next
