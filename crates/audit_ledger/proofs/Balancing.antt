@@ -34,6 +34,7 @@ module _ (role : ℕ) where
   sum_none b (s ∷ states) h = omega (arith, reads_elsewhere b s (λ e. h (inl e)), sum_none b states (λ m. h (inr m)))
 
   sum_one : (b : Booked) (states : List ℕ) → Distinct states → b.state ∈ states → sum (map (λ s. reads_in_state role s (b ∷ [])) states) ≡ reads_of role (b ∷ [])
+  sum_one b [] d x'' = elim x'' [ ]
   sum_one b (s ∷ states) d (inl e) = omega (arith, reads_here b s e, sum_none b states (λ m. d.0 (rw (← e) m)))
   sum_one b (s ∷ states) d (inr m) = omega (arith, reads_elsewhere b s (λ e. d.0 (rw (← e) m)), sum_one b states d.1 m)
 

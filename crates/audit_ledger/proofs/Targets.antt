@@ -50,6 +50,7 @@ distinct_times t (x ∷ xs) = go (eqb t x) refl (is_in x xs) (is_in_times x xs) 
 
 -- and all stand in the list
 pub distinct-∈ : (t : ℕ) (xs : List ℕ) → t ∈ distinct xs → t ∈ xs
+distinct-∈ t [] m = elim m [ ]
 distinct-∈ t (x ∷ xs) m = go (is_in x xs) m (λ k. distinct-∈ t xs k)
   where
     go : (b : Bool) → t ∈ cons_if (not b) x (distinct xs) → (t ∈ distinct xs → t ∈ xs) → t ∈ (x ∷ xs)

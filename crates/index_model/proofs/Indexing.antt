@@ -32,6 +32,7 @@ use Rattle.index_model.proofs.Sorting.{rows_of, keys_rows, ranks_rows, positions
 -- ---- the members of all seeds
 
 seeds-∈ : (q r : ℕ) (s : List ℕ) (i n : ℕ) (p : Posting) → p ∈ seeds_from q r s i n → (j : ℕ) × (i ≤ j) × (j < i + n) × (p ≡ seed_at q r s j)
+seeds-∈ q r s i zero p x' = elim x' [ ]
 seeds-∈ q r s i (suc n) p (inl e) = (i, omega arith, omega arith, e)
 seeds-∈ q r s i (suc n) p (inr m) = let h = seeds-∈ q r s (suc i) n p m in (h.0, omega arith, omega arith, h.3)
 
@@ -49,6 +50,7 @@ abbrev SeedOf : ℕ → ℕ → List (List ℕ) → Posting → Type 0
 SeedOf q r ss p = (j : ℕ) × (j < length ss) × (i : ℕ) × (i < starts q (get_or ss j [])) × (p ≡ seed_at q (r + j) (get_or ss j []) i)
 
 all-∈ : (q r : ℕ) (ss : List (List ℕ)) (p : Posting) → p ∈ all_seeds q r ss → SeedOf q r ss p
+all-∈ q r [] p m = elim m [ ]
 all-∈ q r (s ∷ ss) p m = ⊎_elim here (λ k. there (all-∈ q (suc r) ss p k)) (append-∈ p (seeds q r s) (all_seeds q (suc r) ss) m)
   where
     here : p ∈ seeds q r s → SeedOf q r (s ∷ ss) p

@@ -32,6 +32,7 @@ before_total p q h k =
 -- ---- fitting places
 
 places_in-∈ : (r s k : ℕ) (p : Place) → p ∈ places_in r s k → (p.rank ≡ r) × (s ≤ p.start) × (p.start < s + k) × (p.strand < 2)
+places_in-∈ r s zero p x' = elim x' [ ]
 places_in-∈ r s (suc k) p (inl e) = let a = ap (λ q. q.rank) e in let b = ap (λ q. q.start) e in let c = ap (λ q. q.strand) e in omega arith
 places_in-∈ r s (suc k) p (inr (inl e)) = let a = ap (λ q. q.rank) e in let b = ap (λ q. q.start) e in let c = ap (λ q. q.strand) e in omega arith
 places_in-∈ r s (suc k) p (inr (inr m)) = let h = places_in-∈ r (suc s) k p m in omega arith
@@ -66,6 +67,7 @@ abbrev FitsFrom : ℕ → ℕ → List (List ℕ) → Place → Type 0
 FitsFrom r n ss p = (j : ℕ) × (p.rank ≡ r + j) × (j < length ss) × (p.start + n ≤ length (get_or ss j [])) × (p.strand < 2)
 
 places_from-∈ : (r n : ℕ) (ss : List (List ℕ)) (p : Place) → p ∈ places_from r n ss → FitsFrom r n ss p
+places_from-∈ r n [] p m = elim m [ ]
 places_from-∈ r n (s ∷ ss) p m = ⊎_elim here (λ k. there (places_from-∈ (suc r) n ss p k)) (append-∈ p (places_in r 0 (starts n s)) (places_from (suc r) n ss) m)
   where
     here : p ∈ places_in r 0 (starts n s) → FitsFrom r n (s ∷ ss) p
