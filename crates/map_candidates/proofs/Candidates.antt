@@ -70,6 +70,7 @@ window-window (suc o) q (suc n) (x ∷ l) h = window-window o q n l (omega arith
 -- ---- the chosen offset
 
 stopped-∈ : (p : ℕ → Bool) (xs : List ℕ) (n o : ℕ) → o ∈ stopped p xs n → o ∈ xs
+stopped-∈ p [] n o x' = elim x' [ ]
 stopped-∈ p (x ∷ xs) n o (inl e) = inl e
 stopped-∈ p (x ∷ xs) n o (inr m) = inr (go (p x) n m (λ k l. stopped-∈ p xs k o l))
   where

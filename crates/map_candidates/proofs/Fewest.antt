@@ -62,6 +62,7 @@ module _ (count : ℕ → ℕ) where
 
   fewest_first : (best : ℕ) (os : List ℕ) → NotFalling best os → First best os
   unfolding First
+  fewest_first best [] r o (inr x5) h = elim x5 [ ]
   fewest_first best [] r o (inl e) h = absurd (omega arith)
   fewest_first best (x ∷ os) r o m h =
       by_test (ltb (count x) (count best))

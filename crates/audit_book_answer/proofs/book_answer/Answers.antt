@@ -7,5 +7,4 @@ raise_answer-requires c = answer_ready _ _ _ _ _ _ c.requires
 
 pub returns : goal.returns
 returns c =
-    let s = c in
-    answer_held _ _ _ _ _ _ s.requires s.args.ordinal _ _ (answer_ledger _ _ _ _ _ _ s.requires _ c.post_answer-posted.ensures) c.raise_answer.ensures
+    answer_held _ _ _ _ _ _ c.requires c.args.ordinal _ _ (answer_ledger _ _ _ _ _ _ c.requires _ c.post_answer-posted.ensures) c.raise_answer.ensures

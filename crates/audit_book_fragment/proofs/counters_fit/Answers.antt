@@ -10,38 +10,33 @@ use Rattle.audit_book_fragment.proofs.counters_fit.Goals as goal
 
 pub returns-then-not-targets_fit : goal.returns-then-not-targets_fit
 returns-then-not-targets_fit c =
-    let z = c in
-    let a = z.args in
+    let a = c.args in
     let k = counters_of a.placements.now a.singles.now a.multi.now in
     let o = both a.n a.first.now a.m a.second.now k in
     sym (first_fails (small o.placements) (small o.singles) (small o.multi) _ c.targets_fit.ensures c.if-not-targets_fit.true-raw)
 
 pub targets_fit-requires-2 : goal.targets_fit-requires-2
 targets_fit-requires-2 c =
-    let z = c in
-    let a = z.args in
+    let a = c.args in
     let k = counters_of a.placements.now a.singles.now a.multi.now in
-    targets_fittable a.n a.first.now a.m a.second.now k z.requires _ _ _ (omega (arith, single_fewer a.n, c.single_groups.ensures)) (omega (arith, single_fewer a.m, c.single_groups-2.ensures)) z.requires.counters.each.singles
+    targets_fittable a.n a.first.now a.m a.second.now k c.requires _ _ _ (omega (arith, single_fewer a.n, c.single_groups.ensures)) (omega (arith, single_fewer a.m, c.single_groups-2.ensures)) c.requires.counters.each.singles
 
 pub returns-then-not-targets_fit-2 : goal.returns-then-not-targets_fit-2
 returns-then-not-targets_fit-2 c =
-    let z = c in
-    let a = z.args in
+    let a = c.args in
     let k = counters_of a.placements.now a.singles.now a.multi.now in
     let o = both a.n a.first.now a.m a.second.now k in
     sym (second_fails (small o.placements) (small o.singles) (small o.multi) _ c.targets_fit.ensures c.if-not-targets_fit.false-raw _ (singles_fit a.n a.first.now a.m a.second.now k _ _ c.single_groups.ensures c.single_groups-2.ensures _ c.targets_fit-2.ensures) c.if-not-targets_fit-2.true-raw)
 
 pub targets_fit-requires-3 : goal.targets_fit-requires-3
 targets_fit-requires-3 c =
-    let z = c in
-    let a = z.args in
+    let a = c.args in
     let k = counters_of a.placements.now a.singles.now a.multi.now in
-    targets_fittable a.n a.first.now a.m a.second.now k z.requires _ _ _ (omega (arith, several_fewer a.n, c.several_groups.ensures)) (omega (arith, several_fewer a.m, c.several_groups-2.ensures)) z.requires.counters.each.multi
+    targets_fittable a.n a.first.now a.m a.second.now k c.requires _ _ _ (omega (arith, several_fewer a.n, c.several_groups.ensures)) (omega (arith, several_fewer a.m, c.several_groups-2.ensures)) c.requires.counters.each.multi
 
 pub returns : goal.returns
 returns c =
-    let z = c in
-    let a = z.args in
+    let a = c.args in
     let k = counters_of a.placements.now a.singles.now a.multi.now in
     let o = both a.n a.first.now a.m a.second.now k in
     multi_fit a.n a.first.now a.m a.second.now k _ _ c.several_groups.ensures c.several_groups-2.ensures _ c.targets_fit-3.ensures ∙ sym (third_decides (small o.placements) (small o.singles) (small o.multi) _ c.targets_fit.ensures c.if-not-targets_fit.false-raw _ (singles_fit a.n a.first.now a.m a.second.now k _ _ c.single_groups.ensures c.single_groups-2.ensures _ c.targets_fit-2.ensures) c.if-not-targets_fit-2.false-raw)

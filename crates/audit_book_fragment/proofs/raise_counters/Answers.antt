@@ -6,28 +6,24 @@ use Rattle.audit_book_fragment.proofs.raise_counters.Goals as goal
 
 pub raise_targets-requires : goal.raise_targets-requires
 raise_targets-requires c =
-    let z = c in
-    let a = z.args in
+    let a = c.args in
     let k = counters_of a.placements.now a.singles.now a.multi.now in
-    placements_raisable a.n a.entries.now k z.requires _ (omega arith)
+    placements_raisable a.n a.entries.now k c.requires _ (omega arith)
 
 pub raise_targets-requires-2 : goal.raise_targets-requires-2
 raise_targets-requires-2 c =
-    let z = c in
-    let a = z.args in
+    let a = c.args in
     let k = counters_of a.placements.now a.singles.now a.multi.now in
-    singles_raisable a.n a.entries.now k z.requires _ c.single_groups.ensures
+    singles_raisable a.n a.entries.now k c.requires _ c.single_groups.ensures
 
 pub raise_targets-requires-3 : goal.raise_targets-requires-3
 raise_targets-requires-3 c =
-    let z = c in
-    let a = z.args in
+    let a = c.args in
     let k = counters_of a.placements.now a.singles.now a.multi.now in
-    multi_raisable a.n a.entries.now k z.requires _ c.several_groups.ensures
+    multi_raisable a.n a.entries.now k c.requires _ c.several_groups.ensures
 
 pub returns : goal.returns
 returns c =
-    let z = c in
-    let a = z.args in
+    let a = c.args in
     let k = counters_of a.placements.now a.singles.now a.multi.now in
     raised_are a.n a.entries.now k _ _ c.single_groups.ensures c.several_groups.ensures _ _ _ c.raise_targets.ensures c.raise_targets-2.ensures c.raise_targets-3.ensures

@@ -1,7 +1,7 @@
 use mathlib.Core.Path.{sym, ◌∙◌}
-use mathlib.Core.Logic.{⊎_elim}
 use Rattle.audit_counters.proofs.Choosing.{runs_start, runs_more, runs_same, runs_end}
 use Rattle.audit_counters.proofs.count_runs.Goals as goal
+use Rattle.audit_counters.proofs.count_runs.Goals.{then-counts, else-counts}
 
 pub loop-i-init : goal.loop-i-init
 loop-i-init c = runs_start _ _
@@ -11,7 +11,10 @@ loop-i-preserved c =
     let l = c.loop-i in
     let here = c.loop-i-test.true in
     let e = sym c.counts.ensures in
-    ⊎_elim (λ w. runs_more _ _ _ _ l.invariant here _ w.1 (e ∙ w.0.taken)) (λ w. runs_same _ _ _ _ l.invariant here _ w.1 (e ∙ w.0.left)) c.if-counts.branch
+    elim c.if-counts.branch [
+      then-counts w ↦ runs_more _ _ _ _ l.invariant here _ w.runs-is (e ∙ w.if-counts.true)
+    | else-counts w ↦ runs_same _ _ _ _ l.invariant here _ w.runs-is (e ∙ w.if-counts.false)
+    ]
 
 pub returns : goal.returns
 returns c = runs_end _ _ _ _ c.loop-i.invariant c.loop-i-test.false

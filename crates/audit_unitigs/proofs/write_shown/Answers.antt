@@ -13,6 +13,5 @@ pub returns-in-Available : goal.returns-in-Available
 returns-in-Available c =
     let z = c.args in
     let s = c.status_number-number in
-    let g = c.totals-1.given in
     let w = c.write_four-in-Available in
     row_with z.shown s.result s.ensures z.at z.rows.now w.new.buffer c.in-Available.t c.in-Available.is w.ensures

@@ -18,8 +18,7 @@ overflow_mul-share c = omega (arith, c.share_of-share.ensures.2, c.type_inv.1.0)
 
 pub audit_list-after-requires : goal.audit_list-after-requires
 audit_list-after-requires c =
-    let s = c in
-    let a = s.args in record { tested = s.requires; lists_lent = lists_lent (fragment_lists a.ordinals.now a.counts.now (read_lists a.roles.now a.reads.now a.read-ends.now a.quality-marks.now a.qualities.now a.quality-ends.now)) a.rows.now (sym c.lists_fit.ensures ∙ c.if-not-lists_fit.false) c.share_of-share.result a.entries.now c.share_of-share.ensures.0 }
+    let a = c.args in record { tested = c.requires; lists_lent = lists_lent (fragment_lists a.ordinals.now a.counts.now (read_lists a.roles.now a.reads.now a.read_ends.now a.quality_marks.now a.qualities.now a.quality_ends.now)) a.rows.now (sym c.lists_fit.ensures ∙ c.if-not-lists_fit.false) c.share_of-share.result a.entries.now c.share_of-share.ensures.0 }
 
 pub returns : goal.returns
 returns c =

@@ -6,7 +6,7 @@ use Rattle.batch_fragment_rows.proofs.Refusing.{refused_room, two_put}
 use Rattle.batch_fragment_rows.proofs.write_fragment.Goals as goal
 
 pub write_refusals-requires : goal.write_refusals-requires
-write_refusals-requires c = let z = c in omega (arith, refused_room z.args.at z.args.n _ _ (rw c.in-Refused.is at z.requires))
+write_refusals-requires c = omega (arith, refused_room c.args.at c.args.n _ _ (rw c.in-Refused.is at c.requires))
 
 pub write_row-requires : goal.write_row-requires
 write_row-requires c = omega (arith, rw c.in-Single.is at c.requires)
@@ -25,7 +25,5 @@ returns-in-Single c = rw c.in-Single.is c.write_row.ensures
 
 pub returns-in-Paired : goal.returns-in-Paired
 returns-in-Paired c =
-    let z = c in
-    let told = c.answer-in-Paired-1.given in
     let m = c.in-Paired.m in
-    rw c.in-Paired.is (two_put (8 * z.args.at) z.args.rows.now _ _ (mapping_row m.first) (mapping_row m.second) (omega (arith, rw c.in-Paired.is at z.requires)) c.write_row-in-Paired.ensures c.write_row-in-Paired-2.ensures)
+    rw c.in-Paired.is (two_put (8 * c.args.at) c.args.rows.now _ _ (mapping_row m.first) (mapping_row m.second) (omega (arith, rw c.in-Paired.is at c.requires)) c.write_row-in-Paired.ensures c.write_row-in-Paired-2.ensures)

@@ -16,10 +16,9 @@ write_row-requires c = omega (arith, c.requires, c.loop-i.invariant.long, c.loop
 
 pub loop-i-preserved : goal.loop-i-preserved
 loop-i-preserved c =
-    let z = c in
-    let a = z.args in
+    let a = c.args in
     let l = c.loop-i in
-    refusing_next a.at a.n a.number a.rows.now l.i l.rows l.invariant c.loop-i-test.true z.requires _ c.write_row.ensures
+    refusing_next a.at a.n a.number a.rows.now l.i l.rows l.invariant c.loop-i-test.true c.requires _ c.write_row.ensures
 
 pub shape_of-rows : goal.shape_of-rows
 shape_of-rows c = c.loop-i.invariant.long

@@ -11,10 +11,10 @@ pub sequence_or_none-second_qualities-requires : goal.sequence_or_none-second_qu
 sequence_or_none-second_qualities-requires c = c.requires.reads_lent.0.qualities_right
 
 pub offset_bounds-entries-from : goal.offset_bounds-entries-from
-offset_bounds-entries-from c = let z = c in omega (arith, begin-fits z.args.width z.args.i (length z.args.entries.now) z.requires.reads_lent.1.0 (omega arith))
+offset_bounds-entries-from c = omega (arith, begin-fits c.args.width c.args.i (length c.args.entries.now) c.requires.reads_lent.1.0 (omega arith))
 
 pub slice_bounds-audit_tested-end : goal.slice_bounds-audit_tested-end
-slice_bounds-audit_tested-end c = let z = c in omega (arith, (share_within z.args.width z.args.i (length z.args.entries.now) z.requires.reads_lent.1.0).ends)
+slice_bounds-audit_tested-end c = omega (arith, (share_within c.args.width c.args.i (length c.args.entries.now) c.requires.reads_lent.1.0).ends)
 
 pub audit_tested-audit-requires : goal.audit_tested-audit-requires
 audit_tested-audit-requires c = c.requires.tested

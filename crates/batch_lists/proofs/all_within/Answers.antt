@@ -11,17 +11,15 @@ loop-i-init c = (omega arith, refl)
 
 pub returns-then-most-bytes : goal.returns-then-most-bytes
 returns-then-most-bytes c =
-    let l = c in
-    let bytes = l.args.bytes.now in
-    let most = l.args.most in
-    sym (l.loop-i.invariant.1 ∙ every_fails (λ b. leb b most) 0 bytes l.loop-i.i c.loop-i-test.true (lt-leb (get_or bytes l.loop-i.i 0) most (omega (arith, c.if-most-bytes.true))))
+    let bytes = c.args.bytes.now in
+    let most = c.args.most in
+    sym (c.loop-i.invariant.1 ∙ every_fails (λ b. leb b most) 0 bytes c.loop-i.i c.loop-i-test.true (lt-leb (get_or bytes c.loop-i.i 0) most (omega (arith, c.if-most-bytes.true))))
 
 pub loop-i-preserved : goal.loop-i-preserved
 loop-i-preserved c =
-    let l = c in
-    let bytes = l.args.bytes.now in
-    let most = l.args.most in
-    (omega arith, l.loop-i.invariant.1 ∙ every_passes (λ b. leb b most) 0 bytes l.loop-i.i c.loop-i-test.true (le-leb (get_or bytes l.loop-i.i 0) most (omega (arith, c.if-most-bytes.false))))
+    let bytes = c.args.bytes.now in
+    let most = c.args.most in
+    (omega arith, c.loop-i.invariant.1 ∙ every_passes (λ b. leb b most) 0 bytes c.loop-i.i c.loop-i-test.true (le-leb (get_or bytes c.loop-i.i 0) most (omega (arith, c.if-most-bytes.false))))
 
 pub returns : goal.returns
 returns c = let a = c.args in sym (c.loop-i.invariant.1 ∙ every_end (λ b. leb b a.most) a.bytes.now _ c.loop-i-test.false)

@@ -8,62 +8,55 @@ use Rattle.batch_reads.proofs.map_shares.Goals as goal
 
 pub loop-i-init : goal.loop-i-init
 loop-i-init c =
-    let z = c in
-    let a = z.args in
+    let a = c.args in
     let ss = ranked_sequences a.bases.now a.ends.now a.ranked.now in
-    shares_start a.q ss a.ranked.now a.limit a.reads.now a.read-ends.now a.share a.rows.now a.entries.now
+    shares_start a.q ss a.ranked.now a.limit a.reads.now a.read_ends.now a.share a.rows.now a.entries.now
 
 pub approach-requires : goal.approach-requires
 approach-requires c =
-    let z = c in
-    let a = z.args in
+    let a = c.args in
     record {
-      rising = subst Rising (sym z.requires.mappable.0.indexed.keys) (index_rising a.q (ranked_sequences a.bases.now a.ends.now a.ranked.now));
-      lent = record { seed = z.requires.mappable.0.seed; right = z.requires.mappable.1; inside = omega (arith, c.loop-i-test.true) };
+      rising = subst Rising (sym c.requires.mappable.0.indexed.keys) (index_rising a.q (ranked_sequences a.bases.now a.ends.now a.ranked.now));
+      lent = record { seed = c.requires.mappable.0.seed; right = c.requires.mappable.1; inside = omega (arith, c.loop-i-test.true) };
     }
 
 pub overflow_mul-width : goal.overflow_mul-width
 overflow_mul-width c =
-    let z = c in
-    let a = z.args in
+    let a = c.args in
     let ss = ranked_sequences a.bases.now a.ends.now a.ranked.now in
     let l = c.loop-i in
-    omega (arith, shares_share a.q ss a.ranked.now a.limit a.reads.now a.read-ends.now a.share a.rows.now a.entries.now l.i l.rows l.entries l.invariant (omega (arith, c.loop-i-test.true)) z.requires.rows_len.0 z.requires.rows_len.1, l.invariant.entries_long)
+    omega (arith, shares_share a.q ss a.ranked.now a.limit a.reads.now a.read_ends.now a.share a.rows.now a.entries.now l.i l.rows l.entries l.invariant (omega (arith, c.loop-i-test.true)) c.requires.rows_len.0 c.requires.rows_len.1, l.invariant.entries_long)
 
 pub sequence_at-read-requires : goal.sequence_at-read-requires
 sequence_at-read-requires c = (c.requires.mappable.1, omega (arith, c.loop-i-test.true))
 
 pub overflow_mul-width-in-loop-i : goal.overflow_mul-width-in-loop-i
 overflow_mul-width-in-loop-i c =
-    let z = c in
-    let a = z.args in
+    let a = c.args in
     let ss = ranked_sequences a.bases.now a.ends.now a.ranked.now in
     let l = c.loop-i in
-    omega (arith, shares_share a.q ss a.ranked.now a.limit a.reads.now a.read-ends.now a.share a.rows.now a.entries.now l.i l.rows l.entries l.invariant (omega (arith, c.loop-i-test.true)) z.requires.rows_len.0 z.requires.rows_len.1, l.invariant.entries_long)
+    omega (arith, shares_share a.q ss a.ranked.now a.limit a.reads.now a.read_ends.now a.share a.rows.now a.entries.now l.i l.rows l.entries l.invariant (omega (arith, c.loop-i-test.true)) c.requires.rows_len.0 c.requires.rows_len.1, l.invariant.entries_long)
 
 pub map_share-answer-requires : goal.map_share-answer-requires
 map_share-answer-requires c =
-    let z = c in
-    let a = z.args in
+    let a = c.args in
     let ss = ranked_sequences a.bases.now a.ends.now a.ranked.now in
     let l = c.loop-i in
-    (z.requires.mappable.0, omega (arith, shares_share a.q ss a.ranked.now a.limit a.reads.now a.read-ends.now a.share a.rows.now a.entries.now l.i l.rows l.entries l.invariant (omega (arith, c.loop-i-test.true)) z.requires.rows_len.0 z.requires.rows_len.1))
+    (c.requires.mappable.0, omega (arith, shares_share a.q ss a.ranked.now a.limit a.reads.now a.read_ends.now a.share a.rows.now a.entries.now l.i l.rows l.entries l.invariant (omega (arith, c.loop-i-test.true)) c.requires.rows_len.0 c.requires.rows_len.1))
 
 pub overflow_mul-i : goal.overflow_mul-i
 overflow_mul-i c =
-    let z = c in
-    let a = z.args in
+    let a = c.args in
     let ss = ranked_sequences a.bases.now a.ends.now a.ranked.now in
     let l = c.loop-i in
-    omega (arith, shares-row a.q ss a.ranked.now a.limit a.reads.now a.read-ends.now a.share a.rows.now a.entries.now l.i l.rows l.entries l.invariant (omega (arith, c.loop-i-test.true)) z.requires.rows_len.0 z.requires.rows_len.1, l.invariant.rows_long)
+    omega (arith, shares-row a.q ss a.ranked.now a.limit a.reads.now a.read_ends.now a.share a.rows.now a.entries.now l.i l.rows l.entries l.invariant (omega (arith, c.loop-i-test.true)) c.requires.rows_len.0 c.requires.rows_len.1, l.invariant.rows_long)
 
 pub write_row-requires : goal.write_row-requires
 write_row-requires c =
-    let z = c in
-    let a = z.args in
+    let a = c.args in
     let ss = ranked_sequences a.bases.now a.ends.now a.ranked.now in
     let l = c.loop-i in
-    omega (arith, shares-row a.q ss a.ranked.now a.limit a.reads.now a.read-ends.now a.share a.rows.now a.entries.now l.i l.rows l.entries l.invariant (omega (arith, c.loop-i-test.true)) z.requires.rows_len.0 z.requires.rows_len.1)
+    omega (arith, shares-row a.q ss a.ranked.now a.limit a.reads.now a.read_ends.now a.share a.rows.now a.entries.now l.i l.rows l.entries l.invariant (omega (arith, c.loop-i-test.true)) c.requires.rows_len.0 c.requires.rows_len.1)
 
 pub overflow_add-i : goal.overflow_add-i
 overflow_add-i c = omega (arith, c.loop-i-test.true, c.type_inv)
@@ -73,12 +66,11 @@ loop-i-smaller c = omega (arith, c.loop-i-test.true)
 
 pub loop-i-preserved : goal.loop-i-preserved
 loop-i-preserved c =
-    let z = c in
-    let a = z.args in
+    let a = c.args in
     let ss = ranked_sequences a.bases.now a.ends.now a.ranked.now in
     let l = c.loop-i in
     let m = c.map_share-answer in
-    shares_next a.q ss a.ranked.now a.limit a.reads.now a.read-ends.now a.share a.rows.now a.entries.now l.i l.rows l.entries l.invariant (omega (arith, c.loop-i-test.true)) z.requires.rows_len.0 z.requires.rows_len.1 _ m.result _ m.new.entries c.sequence_at-read.ensures m.ensures c.write_row.ensures
+    shares_next a.q ss a.ranked.now a.limit a.reads.now a.read_ends.now a.share a.rows.now a.entries.now l.i l.rows l.entries l.invariant (omega (arith, c.loop-i-test.true)) c.requires.rows_len.0 c.requires.rows_len.1 _ m.result _ m.new.entries c.sequence_at-read.ensures m.ensures c.write_row.ensures
 
 pub shape_of-rows : goal.shape_of-rows
 shape_of-rows c = c.loop-i.invariant.rows_long
@@ -88,8 +80,7 @@ shape_of-entries c = c.loop-i.invariant.entries_long
 
 pub returns : goal.returns
 returns c =
-    let z = c in
-    let a = z.args in
+    let a = c.args in
     let ss = ranked_sequences a.bases.now a.ends.now a.ranked.now in
     let l = c.loop-i in
-    shares_end a.q ss a.ranked.now a.limit a.reads.now a.read-ends.now a.share a.rows.now a.entries.now l.i l.rows l.entries l.invariant (omega (arith, c.loop-i-test.false))
+    shares_end a.q ss a.ranked.now a.limit a.reads.now a.read_ends.now a.share a.rows.now a.entries.now l.i l.rows l.entries l.invariant (omega (arith, c.loop-i-test.false))

@@ -14,9 +14,8 @@ pub bounds-answer-1-in-Planned : goal.bounds-answer-1-in-Planned
 bounds-answer-1-in-Planned c = let a = c.args in omega (arith, c.requires, length-set a.answer.now 0 0)
 
 pub returns-in-Refused : goal.returns-in-Refused
-returns-in-Refused c = let g = c.planned-1.given in rw c.in-Refused.is (record { number = refl; written = put_3 c.args.answer.now _ _ _ c.requires })
+returns-in-Refused c = rw c.in-Refused.is (record { number = refl; written = put_3 c.args.answer.now _ _ _ c.requires })
 
 pub returns-in-Planned : goal.returns-in-Planned
 returns-in-Planned c =
-    let g = c.planned-in-Planned-1.given in
     rw c.in-Planned.is (record { number = refl; written = put_3 c.args.answer.now _ _ _ c.requires })

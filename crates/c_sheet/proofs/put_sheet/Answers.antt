@@ -19,4 +19,4 @@ pub shape_of-numbers : goal.shape_of-numbers
 shape_of-numbers c = omega (arith, c.numbers-2-1.given, simp length-set at c.numbers-1.given)
 
 pub returns : goal.returns
-returns c = let lt : length c.args.sheet.table ≡ 18 = search rules in let z = c in put_sheet z.args.sheet lt z.args.at z.args.numbers.now z.requires _ _ _ _ c.copy_numbers.ensures c.write_shown.ensures c.mode_number.ensures c.flag_number.ensures
+returns c = let lt : length c.args.sheet.table ≡ 18 = search rules in put_sheet c.args.sheet lt c.args.at c.args.numbers.now c.requires _ _ _ _ c.copy_numbers.ensures c.write_shown.ensures c.mode_number.ensures c.flag_number.ensures

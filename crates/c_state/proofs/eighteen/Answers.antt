@@ -6,4 +6,4 @@ use Rattle.c_state.proofs.Writing.{put_eighteen}
 use Rattle.c_state.proofs.eighteen.Goals as goal
 
 pub returns : goal.returns
-returns c = let z = c in put_eighteen z.args.numbers.now _ _ z.args.at (z.args.at + 18 - z.args.at) (omega arith) z.requires refl c.copy_numbers.ensures
+returns c = put_eighteen c.args.numbers.now _ _ c.args.at (c.args.at + 18 - c.args.at) (omega arith) c.requires refl c.copy_numbers.ensures

@@ -30,4 +30,4 @@ pub bounds-numbers-31 : goal.bounds-numbers-31
 bounds-numbers-31 c = let s = state_parts c.args.numbers.now c.requires in omega arith
 
 pub returns : goal.returns
-returns c = let z = c in ledger_in z.args.numbers.now (state_parts z.args.numbers.now z.requires).sized _ _ _ _ _ _ _ _ c.eighteen.ensures (omega arith) (omega arith) (omega arith) (omega arith) (omega arith) (omega arith) refl
+returns c = ledger_in c.args.numbers.now (state_parts c.args.numbers.now c.requires).sized _ _ _ _ _ _ _ _ c.eighteen.ensures (omega arith) (omega arith) (omega arith) (omega arith) (omega arith) (omega arith) refl

@@ -25,4 +25,4 @@ pub shape_of-numbers : goal.shape_of-numbers
 shape_of-numbers c = simp length-set (search rules)
 
 pub returns : goal.returns
-returns c = let lt : length c.args.ledger.table ≡ 18 = search rules in let lr : length c.args.ledger.reads ≡ 3 = search rules in let z = c in put_ledger z.args.ledger lt lr z.args.at z.args.numbers.now z.requires _ _ c.copy_numbers.ensures c.copy_numbers-2.ensures _ _ _ _ (omega arith) (omega arith) (omega arith) c.flag_number.ensures
+returns c = let lt : length c.args.ledger.table ≡ 18 = search rules in let lr : length c.args.ledger.reads ≡ 3 = search rules in put_ledger c.args.ledger lt lr c.args.at c.args.numbers.now c.requires _ _ c.copy_numbers.ensures c.copy_numbers-2.ensures _ _ _ _ (omega arith) (omega arith) (omega arith) c.flag_number.ensures

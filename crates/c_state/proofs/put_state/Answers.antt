@@ -19,4 +19,4 @@ pub shape_of-numbers : goal.shape_of-numbers
 shape_of-numbers c = omega (arith, c.numbers-2-1.given, simp length-set at c.numbers-1.given)
 
 pub returns : goal.returns
-returns c = let lt : length c.args.state.ledger.table ≡ 18 = search rules in let lr : length c.args.state.ledger.reads ≡ 3 = search rules in let z = c in put_state z.args.state lt lr z.args.numbers.now z.requires _ _ _ _ _ _ _ c.put_last.ensures c.put_ledger.ensures (omega arith) c.mode_number.ensures c.flag_number.ensures (omega arith) (omega arith)
+returns c = let lt : length c.args.state.ledger.table ≡ 18 = search rules in let lr : length c.args.state.ledger.reads ≡ 3 = search rules in put_state c.args.state lt lr c.args.numbers.now c.requires _ _ _ _ _ _ _ c.put_last.ensures c.put_ledger.ensures (omega arith) c.mode_number.ensures c.flag_number.ensures (omega arith) (omega arith)

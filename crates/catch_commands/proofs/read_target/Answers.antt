@@ -60,6 +60,5 @@ returns c =
     omega (arith, c.shared_slice_known-3-1.given 1) in
     λ k m h.
     let a = c.args in
-    let e = c in
     let l = get_or a.bytes.now 1 0 in
-    (target_read k a.bytes.now (get_or a.bytes.now 0 0) l number a.targets a.held m h (omega arith) refl refl e.little_endian-count.ensures fits (omega arith) (6 + l - 6) (omega arith) (sym c.is_name.ensures ∙ c.if-not-is_name.false), target_within k a.bytes.now (get_or a.bytes.now 0 0) l number a.targets a.held m h (omega arith) refl refl e.little_endian-count.ensures fits few.0)
+    (target_read k a.bytes.now (get_or a.bytes.now 0 0) l number a.targets a.held m h (omega arith) refl refl c.little_endian-count.ensures fits (omega arith) (6 + l - 6) (omega arith) (sym c.is_name.ensures ∙ c.if-not-is_name.false), target_within k a.bytes.now (get_or a.bytes.now 0 0) l number a.targets a.held m h (omega arith) refl refl c.little_endian-count.ensures fits few.0)

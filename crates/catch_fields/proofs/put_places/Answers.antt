@@ -12,4 +12,4 @@ pub put_decimal-requires : goal.put_decimal-requires
 put_decimal-requires c = omega (arith, decimal-room c.args.mapping.groups (omega (arith, c.type_inv)))
 
 pub returns : goal.returns
-returns c = let s = c in record { adds = rw (le-ltb (state_number s.args.mapping.state) 3 (omega arith)) c.put_decimal.ensures; room = omega (arith, decimal-room s.args.mapping.groups (omega (arith, s.type_inv))) }
+returns c = record { adds = rw (le-ltb (state_number c.args.mapping.state) 3 (omega arith)) c.put_decimal.ensures; room = omega (arith, decimal-room c.args.mapping.groups (omega (arith, c.type_inv))) }

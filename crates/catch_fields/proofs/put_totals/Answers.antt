@@ -6,31 +6,26 @@ use Rattle.catch_fields.proofs.put_totals.Goals as goal
 
 pub put_decimal-b-requires : goal.put_decimal-b-requires
 put_decimal-b-requires c =
-    let g = c.totals-1.given in
     let k = c.in-Available.known_told-1-own in
     omega (arith, decimal-room c.in-Available.t.placements (omega (arith, k)), decimal-room c.in-Available.t.singles (omega (arith, k)), decimal-room c.in-Available.t.multi (omega (arith, k)))
 
 pub put_bytes-c-requires : goal.put_bytes-c-requires
 put_bytes-c-requires c =
-    let g = c.totals-1.given in
     let k = c.in-Available.known_told-1-own in
     omega (arith, decimal-room c.in-Available.t.placements (omega (arith, k)), decimal-room c.in-Available.t.singles (omega (arith, k)), decimal-room c.in-Available.t.multi (omega (arith, k)))
 
 pub put_decimal-d-requires : goal.put_decimal-d-requires
 put_decimal-d-requires c =
-    let g = c.totals-1.given in
     let k = c.in-Available.known_told-1-own in
     omega (arith, decimal-room c.in-Available.t.placements (omega (arith, k)), decimal-room c.in-Available.t.singles (omega (arith, k)), decimal-room c.in-Available.t.multi (omega (arith, k)))
 
 pub put_bytes-e-requires : goal.put_bytes-e-requires
 put_bytes-e-requires c =
-    let g = c.totals-1.given in
     let k = c.in-Available.known_told-1-own in
     omega (arith, decimal-room c.in-Available.t.placements (omega (arith, k)), decimal-room c.in-Available.t.singles (omega (arith, k)), decimal-room c.in-Available.t.multi (omega (arith, k)))
 
 pub put_decimal-requires : goal.put_decimal-requires
 put_decimal-requires c =
-    let g = c.totals-1.given in
     let k = c.in-Available.known_told-1-own in
     omega (arith, decimal-room c.in-Available.t.placements (omega (arith, k)), decimal-room c.in-Available.t.singles (omega (arith, k)), decimal-room c.in-Available.t.multi (omega (arith, k)))
 
@@ -40,18 +35,12 @@ returns-in-Unavailable c = record { adds = rw c.in-Unavailable.is c.put_bytes.en
 pub returns-in-Available : goal.returns-in-Available
 returns-in-Available c =
     let added =
-    let z5 = c in
-    let z4 = z5 in
-    let z3 = z4 in
-    let z2 = z3 in
-    let z1 = z2 in
-    rw z1.in-Available.is
-    (adds_both z1.put_bytes-a.ensures
-    (adds_both z2.put_decimal-b.ensures
-    (adds_both z3.put_bytes-c.ensures
-    (adds_both z4.put_decimal-d.ensures
-    (adds_both z5.put_bytes-e.ensures
+    rw c.in-Available.is
+    (adds_both c.put_bytes-a.ensures
+    (adds_both c.put_decimal-b.ensures
+    (adds_both c.put_bytes-c.ensures
+    (adds_both c.put_decimal-d.ensures
+    (adds_both c.put_bytes-e.ensures
     (adds_both c.put_decimal.ensures (adds_none _ _))))))) in
-    let g = c.totals-1.given in
     let k = c.in-Available.known_told-1-own in
     record { adds = added c; room = omega (arith, decimal-room c.in-Available.t.placements (omega (arith, k)), decimal-room c.in-Available.t.singles (omega (arith, k)), decimal-room c.in-Available.t.multi (omega (arith, k))) }

@@ -7,25 +7,22 @@ use Rattle.catch_fragment.proofs.tell_fragment.Goals as goal
 
 pub overflow_mul-width : goal.overflow_mul-width
 overflow_mul-width c =
-    let s = c in
-    omega (arith, s.requires.whole, known_within s.args.state.settings.mode _ c.share_of-width.result c.share_of-width.ensures)
+    omega (arith, c.requires.whole, known_within c.args.state.settings.mode _ c.share_of-width.result c.share_of-width.ensures)
 
 pub audit_tested-audit-requires : goal.audit_tested-audit-requires
 audit_tested-audit-requires c = c.requires.tested
 
 pub put_answer-end-requires : goal.put_answer-end-requires
 put_answer-end-requires c =
-    let s = c in
-    let a = s.args in
+    let a = c.args in
     let t = c.audit_tested-audit in
-    answer_lent a.bases.now a.base_ends_lem.now a.ranked.now a.keys.now a.ranks.now a.positions.now a.identifiers.now a.identifier-ends.now a.bytes.now a.head (held_of a.state a.placements.now a.singles.now a.multi.now) a.entries.now a.out.now a.at s.requires c.share_of-width.result c.share_of-width.ensures t.new.entries t.auto.entries _ _ _ t.result.answer t.ensures.observed
+    answer_lent a.bases.now a.base_ends.now a.ranked.now a.keys.now a.ranks.now a.positions.now a.identifiers.now a.identifier_ends.now a.bytes.now a.head (held_of a.state a.placements.now a.singles.now a.multi.now) a.entries.now a.out.now a.at c.requires c.share_of-width.result c.share_of-width.ensures t.new.entries t.auto.entries _ _ _ t.result.answer t.ensures.observed
 
 pub returns : goal.returns
 returns c =
-    let s = c in
-    let a = s.args in
+    let a = c.args in
     let t = c.audit_tested-audit in
     record {
       audited = t.ensures;
-      adds = answer_written a.bases.now a.base_ends_lem.now a.ranked.now a.keys.now a.ranks.now a.positions.now a.identifiers.now a.identifier-ends.now a.bytes.now a.head (held_of a.state a.placements.now a.singles.now a.multi.now) a.entries.now a.out.now a.at s.requires c.share_of-width.result c.share_of-width.ensures t.new.entries t.auto.entries _ _ _ t.result.answer t.ensures.observed _ _ c.put_answer-end.ensures;
+      adds = answer_written a.bases.now a.base_ends.now a.ranked.now a.keys.now a.ranks.now a.positions.now a.identifiers.now a.identifier_ends.now a.bytes.now a.head (held_of a.state a.placements.now a.singles.now a.multi.now) a.entries.now a.out.now a.at c.requires c.share_of-width.result c.share_of-width.ensures t.new.entries t.auto.entries _ _ _ t.result.answer t.ensures.observed _ _ c.put_answer-end.ensures;
     }

@@ -8,45 +8,38 @@ use Rattle.catch_fragment_lines.proofs.put_answer.Goals as goal
 
 pub put_refusal-requires : goal.put_refusal-requires
 put_refusal-requires c =
-    let s = c in
-    let a = s.args in
-    room_of a.at _ a.answer _ c.in-Refused.is s.requires.1
+    let a = c.args in
+    room_of a.at _ a.answer _ c.in-Refused.is c.requires.1
 
 pub put_mate-requires : goal.put_mate-requires
 put_mate-requires c =
-    let s = c in
-    let a = s.args in
-    (lent_single a.identifiers.now a.ends.now a.entries.now a.width a.answer s.requires.0 _ c.in-Single.is, room_of a.at _ a.answer _ c.in-Single.is s.requires.1)
+    let a = c.args in
+    (lent_single a.identifiers.now a.ends.now a.entries.now a.width a.answer c.requires.0 _ c.in-Single.is, room_of a.at _ a.answer _ c.in-Single.is c.requires.1)
 
 pub put_mate-a-requires : goal.put_mate-a-requires
 put_mate-a-requires c =
-    let s = c in
-    let a = s.args in
-    ((lent_paired a.identifiers.now a.ends.now a.entries.now a.width a.answer s.requires.0 _ c.in-Paired.is).0, omega (arith, room_of a.at _ a.answer _ c.in-Paired.is s.requires.1))
+    let a = c.args in
+    ((lent_paired a.identifiers.now a.ends.now a.entries.now a.width a.answer c.requires.0 _ c.in-Paired.is).0, omega (arith, room_of a.at _ a.answer _ c.in-Paired.is c.requires.1))
 
 pub offset_bounds-entries-width : goal.offset_bounds-entries-width
 offset_bounds-entries-width c =
-    let s = c in
-    let a = s.args in
-    omega (arith, (lent_paired a.identifiers.now a.ends.now a.entries.now a.width a.answer s.requires.0 _ c.in-Paired.is).2)
+    let a = c.args in
+    omega (arith, (lent_paired a.identifiers.now a.ends.now a.entries.now a.width a.answer c.requires.0 _ c.in-Paired.is).2)
 
 pub slice_bounds-put_mate-count : goal.slice_bounds-put_mate-count
 slice_bounds-put_mate-count c =
-    let s = c in
-    let a = s.args in
-    omega (arith, (lent_paired a.identifiers.now a.ends.now a.entries.now a.width a.answer s.requires.0 _ c.in-Paired.is).2)
+    let a = c.args in
+    omega (arith, (lent_paired a.identifiers.now a.ends.now a.entries.now a.width a.answer c.requires.0 _ c.in-Paired.is).2)
 
 pub slice_bounds-put_mate-start : goal.slice_bounds-put_mate-start
 slice_bounds-put_mate-start c =
-    let s = c in
-    let a = s.args in
-    omega (arith, (lent_paired a.identifiers.now a.ends.now a.entries.now a.width a.answer s.requires.0 _ c.in-Paired.is).2)
+    let a = c.args in
+    omega (arith, (lent_paired a.identifiers.now a.ends.now a.entries.now a.width a.answer c.requires.0 _ c.in-Paired.is).2)
 
 pub put_mate-requires-in-Paired : goal.put_mate-requires-in-Paired
 put_mate-requires-in-Paired c =
-    let s = c in
-    let a = s.args in
-    (part_lent a.identifiers.now a.ends.now a.entries.now a.width _ (lent_paired a.identifiers.now a.ends.now a.entries.now a.width a.answer s.requires.0 _ c.in-Paired.is).1, omega (arith, room_of a.at _ a.answer _ c.in-Paired.is s.requires.1, c.put_mate-a.ensures.room, c.put_mate-a.auto.out))
+    let a = c.args in
+    (part_lent a.identifiers.now a.ends.now a.entries.now a.width _ (lent_paired a.identifiers.now a.ends.now a.entries.now a.width a.answer c.requires.0 _ c.in-Paired.is).1, omega (arith, room_of a.at _ a.answer _ c.in-Paired.is c.requires.1, c.put_mate-a.ensures.room, c.put_mate-a.auto.out))
 
 pub returns-in-Refused : goal.returns-in-Refused
 returns-in-Refused c =

@@ -12,23 +12,20 @@ use Rattle.catch_lines.proofs.put_run.Goals as goal
 pub put_status-b-requires : goal.put_status-b-requires
 put_status-b-requires c =
     let reached-1 = reached_more (reached_none _ _) 2 c.put_bytes-a.ensures (lit≤ tt) c.put_bytes-a.auto.out in
-    let s = c in
-    room_left reached-1 (le_refl 41) (lit≤ tt) s.requires
+    room_left reached-1 (le_refl 41) (lit≤ tt) c.requires
 
 pub put_totals-c-requires : goal.put_totals-c-requires
 put_totals-c-requires c =
     let reached-1 = reached_more (reached_none _ _) 2 c.put_bytes-a.ensures (lit≤ tt) c.put_bytes-a.auto.out in
     let reached-2 = reached_most reached-1 41 c.put_status-b.ensures c.put_status-b.auto.out in
-    let s = c in
-    room_left reached-2 (le_refl 63) (lit≤ tt) s.requires
+    room_left reached-2 (le_refl 63) (lit≤ tt) c.requires
 
 pub put_bytes-requires : goal.put_bytes-requires
 put_bytes-requires c =
     let reached-1 = reached_more (reached_none _ _) 2 c.put_bytes-a.ensures (lit≤ tt) c.put_bytes-a.auto.out in
     let reached-2 = reached_most reached-1 41 c.put_status-b.ensures c.put_status-b.auto.out in
     let reached-3 = reached_most reached-2 63 c.put_totals-c.ensures c.put_totals-c.auto.out in
-    let s = c in
-    room_left reached-3 (le_refl 1) (lit≤ tt) s.requires
+    room_left reached-3 (le_refl 1) (lit≤ tt) c.requires
 
 pub shape_of-out : goal.shape_of-out
 shape_of-out c =
@@ -41,15 +38,11 @@ shape_of-out c =
 pub returns : goal.returns
 returns c =
     let added =
-    let z3 = c in
-    let z2 = z3 in
-    let z1 = z2 in
-    let s = z1 in
-    adds_line (text "A") (text (status_word s.args.shown.status) ∷ total_words s.args.shown.totals)
-    (adds_both z1.put_bytes-a.ensures
-    (adds_both z2.put_status-b.ensures.adds
-    (adds_last (total_words s.args.shown.totals)
-    (adds_both z3.put_totals-c.ensures.adds
+    adds_line (text "A") (text (status_word c.args.shown.status) ∷ total_words c.args.shown.totals)
+    (adds_both c.put_bytes-a.ensures
+    (adds_both c.put_status-b.ensures.adds
+    (adds_last (total_words c.args.shown.totals)
+    (adds_both c.put_totals-c.ensures.adds
     c.put_bytes.ensures)))) in
     let reached-1 = reached_more (reached_none _ _) 2 c.put_bytes-a.ensures (lit≤ tt) c.put_bytes-a.auto.out in
     let reached-2 = reached_most reached-1 41 c.put_status-b.ensures c.put_status-b.auto.out in

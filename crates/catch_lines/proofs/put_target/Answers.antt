@@ -12,23 +12,20 @@ use Rattle.catch_lines.proofs.put_target.Goals as goal
 pub put_bytes-b-requires : goal.put_bytes-b-requires
 put_bytes-b-requires c =
     let reached-1 = reached_more (reached_none _ _) 2 c.put_bytes-a.ensures (lit≤ tt) c.put_bytes-a.auto.out in
-    let s = c in
-    room_name reached-1 (lit≤ tt) _ s.requires
+    room_name reached-1 (lit≤ tt) _ c.requires
 
 pub put_totals-c-requires : goal.put_totals-c-requires
 put_totals-c-requires c =
     let reached-1 = reached_more (reached_none _ _) 2 c.put_bytes-a.ensures (lit≤ tt) c.put_bytes-a.auto.out in
     let reached-2 = reached_name reached-1 c.put_bytes-b.ensures c.put_bytes-b.auto.out in
-    let s = c in
-    room-behind reached-2 (le_refl 63) (lit≤ tt) s.requires
+    room-behind reached-2 (le_refl 63) (lit≤ tt) c.requires
 
 pub put_bytes-d-requires : goal.put_bytes-d-requires
 put_bytes-d-requires c =
     let reached-1 = reached_more (reached_none _ _) 2 c.put_bytes-a.ensures (lit≤ tt) c.put_bytes-a.auto.out in
     let reached-2 = reached_name reached-1 c.put_bytes-b.ensures c.put_bytes-b.auto.out in
     let reached-3 = reached_most reached-2 63 c.put_totals-c.ensures c.put_totals-c.auto.out in
-    let s = c in
-    room-behind reached-3 (le_refl 1) (lit≤ tt) s.requires
+    room-behind reached-3 (le_refl 1) (lit≤ tt) c.requires
 
 pub put_status-e-requires : goal.put_status-e-requires
 put_status-e-requires c =
@@ -36,8 +33,7 @@ put_status-e-requires c =
     let reached-2 = reached_name reached-1 c.put_bytes-b.ensures c.put_bytes-b.auto.out in
     let reached-3 = reached_most reached-2 63 c.put_totals-c.ensures c.put_totals-c.auto.out in
     let reached-4 = reached_more reached-3 1 c.put_bytes-d.ensures (lit≤ tt) c.put_bytes-d.auto.out in
-    let s = c in
-    room-behind reached-4 (le_refl 41) (lit≤ tt) s.requires
+    room-behind reached-4 (le_refl 41) (lit≤ tt) c.requires
 
 pub put_bytes-requires : goal.put_bytes-requires
 put_bytes-requires c =
@@ -46,8 +42,7 @@ put_bytes-requires c =
     let reached-3 = reached_most reached-2 63 c.put_totals-c.ensures c.put_totals-c.auto.out in
     let reached-4 = reached_more reached-3 1 c.put_bytes-d.ensures (lit≤ tt) c.put_bytes-d.auto.out in
     let reached-5 = reached_most reached-4 41 c.put_status-e.ensures c.put_status-e.auto.out in
-    let s = c in
-    room-behind reached-5 (le_refl 1) (lit≤ tt) s.requires
+    room-behind reached-5 (le_refl 1) (lit≤ tt) c.requires
 
 pub shape_of-out : goal.shape_of-out
 shape_of-out c =
@@ -62,19 +57,13 @@ shape_of-out c =
 pub returns : goal.returns
 returns c =
     let added =
-    let z5 = c in
-    let z4 = z5 in
-    let z3 = z4 in
-    let z2 = z3 in
-    let z1 = z2 in
-    let s = z1 in
-    adds_line (text "T") (s.args.name.now ∷ total_words s.args.shown.totals ++ text (status_word s.args.shown.status) ∷ [])
-    (adds_both z1.put_bytes-a.ensures
-    (adds_both z2.put_bytes-b.ensures
-    (adds_fields (total_words s.args.shown.totals) (text (status_word s.args.shown.status) ∷ [])
-    (adds_both z3.put_totals-c.ensures.adds
-    (adds_both z4.put_bytes-d.ensures
-    (adds_both z5.put_status-e.ensures.adds
+    adds_line (text "T") (c.args.name.now ∷ total_words c.args.shown.totals ++ text (status_word c.args.shown.status) ∷ [])
+    (adds_both c.put_bytes-a.ensures
+    (adds_both c.put_bytes-b.ensures
+    (adds_fields (total_words c.args.shown.totals) (text (status_word c.args.shown.status) ∷ [])
+    (adds_both c.put_totals-c.ensures.adds
+    (adds_both c.put_bytes-d.ensures
+    (adds_both c.put_status-e.ensures.adds
     c.put_bytes.ensures)))))) in
     let reached-1 = reached_more (reached_none _ _) 2 c.put_bytes-a.ensures (lit≤ tt) c.put_bytes-a.auto.out in
     let reached-2 = reached_name reached-1 c.put_bytes-b.ensures c.put_bytes-b.auto.out in

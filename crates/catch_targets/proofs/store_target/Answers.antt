@@ -4,5 +4,4 @@ use Rattle.catch_targets.proofs.store_target.Goals as goal
 
 pub returns : goal.returns
 returns c =
-    let s = c in
-    let a = s.args in record { marks_value = stored a.supply a.topology a.name.now a.sequence.now a.identifiers.now a.identifier-ends.now a.bases.now a.base_ends_lem.now a.marks.now _ _ s.requires _ _ c.put_bytes-names.ensures c.put_bytes-total.ensures; value = counted a.supply a.topology a.name.now a.sequence.now a.identifiers.now a.identifier-ends.now a.bases.now a.base_ends_lem.now a.marks.now _ _ s.requires _ _ c.put_bytes-names.ensures c.put_bytes-total.ensures }
+    let a = c.args in record { marks_value = stored a.supply a.topology a.name.now a.sequence.now a.identifiers.now a.identifier_ends.now a.bases.now a.base_ends.now a.marks.now _ _ c.requires _ _ c.put_bytes-names.ensures c.put_bytes-total.ensures; value = counted a.supply a.topology a.name.now a.sequence.now a.identifiers.now a.identifier_ends.now a.bases.now a.base_ends.now a.marks.now _ _ c.requires _ _ c.put_bytes-names.ensures c.put_bytes-total.ensures }

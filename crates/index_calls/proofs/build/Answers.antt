@@ -7,27 +7,23 @@ use Rattle.index_calls.proofs.build.Goals as goal
 pub slice_bounds-places-end : goal.slice_bounds-places-end
 slice_bounds-places-end c =
     let r = c.rank_checked-ranking in
-    let g = c.ranking-in-Ranked-1.given in
     within_buffer _ _ _ _ r.ensures _ c.in-Ranked.is
 
 pub slice_bounds-build_ranked-end : goal.slice_bounds-build_ranked-end
 slice_bounds-build_ranked-end c =
     let r = c.rank_checked-ranking in
-    let g = c.ranking-in-Ranked-1.given in
     prefix_length _ _ _ _ r.ensures _ c.in-Ranked.is
 
 pub build_ranked-requires : goal.build_ranked-requires
 build_ranked-requires c =
     let r = c.rank_checked-ranking in
-    let g = c.ranking-in-Ranked-1.given in
     (lent _ _ _ _ r.ensures _ c.in-Ranked.is (omega (arith, r.auto.ranked)), seed_length _ _ _ _ r.ensures _ c.in-Ranked.is)
 
 pub returns-in-Refused : goal.returns-in-Refused
-returns-in-Refused c = let r = c.rank_checked-ranking in let g = c.ranking-1.given in build_refused _ _ _ _ r.ensures _ c.in-Refused.is _ _ _
+returns-in-Refused c = let r = c.rank_checked-ranking in build_refused _ _ _ _ r.ensures _ c.in-Refused.is _ _ _
 
 pub returns-in-Ranked : goal.returns-in-Ranked
 returns-in-Ranked c =
     let r = c.rank_checked-ranking in
-    let g = c.ranking-in-Ranked-1.given in
     let s = c.build_ranked in
     build_done _ _ _ _ r.ensures _ c.in-Ranked.is _ _ _ _ _ _ _ s.ensures

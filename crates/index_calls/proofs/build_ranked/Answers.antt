@@ -14,10 +14,8 @@ returns-then-positions-n c = no_room _ _ _ _ _ (omega (arith, c.if-positions-n.t
 
 pub build_index-requires : goal.build_index-requires
 build_index-requires c =
-    let s = c in
-    let n = s.count_postings-n.ensures in record { lent = s.requires; room = record { keys = omega (arith, n, c.if-keys-n.false); ranks = omega (arith, n, c.if-ranks-n.false); positions = omega (arith, n, c.if-positions-n.false) } }
+    let n = c.count_postings-n.ensures in record { lent = c.requires; room = record { keys = omega (arith, n, c.if-keys-n.false); ranks = omega (arith, n, c.if-ranks-n.false); positions = omega (arith, n, c.if-positions-n.false) } }
 
 pub returns : goal.returns
 returns c =
-    let s = c in
-    with_room _ _ _ _ _ _ s.count_postings-n.ensures (omega (arith, s.if-keys-n.false, s.if-ranks-n.false, s.if-positions-n.false)) _ _ _ c.build_index.ensures _ c.accepted_build.ensures
+    with_room _ _ _ _ _ _ c.count_postings-n.ensures (omega (arith, c.if-keys-n.false, c.if-ranks-n.false, c.if-positions-n.false)) _ _ _ c.build_index.ensures _ c.accepted_build.ensures

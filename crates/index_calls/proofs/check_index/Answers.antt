@@ -8,32 +8,27 @@ use Rattle.index_calls.proofs.check_index.Goals as goal
 pub slice_bounds-places-end : goal.slice_bounds-places-end
 slice_bounds-places-end c =
     let r = c.rank_checked-ranking in
-    let g = c.ranking-in-Ranked-1.given in
     within_buffer _ _ _ _ r.ensures _ c.in-Ranked.is
 
 pub slice_bounds-is_index-end : goal.slice_bounds-is_index-end
 slice_bounds-is_index-end c =
     let r = c.rank_checked-ranking in
-    let g = c.ranking-in-Ranked-1.given in
     prefix_length _ _ _ _ r.ensures _ c.in-Ranked.is
 
 pub is_index-requires : goal.is_index-requires
 is_index-requires c =
     let r = c.rank_checked-ranking in
-    let g = c.ranking-in-Ranked-1.given in
     (lent _ _ _ _ r.ensures _ c.in-Ranked.is (omega (arith, r.auto.ranked)), seed_length _ _ _ _ r.ensures _ c.in-Ranked.is)
 
 pub returns-then-is_index : goal.returns-then-is_index
 returns-then-is_index c =
     let r = c.rank_checked-ranking in
-    let g = c.ranking-in-Ranked-1.given in
     test_done _ _ _ _ r.ensures _ c.in-Ranked.is _ _ _ true (sym c.is_index.ensures ∙ c.if-is_index.true)
 
 pub returns-in-Refused : goal.returns-in-Refused
-returns-in-Refused c = let r = c.rank_checked-ranking in let g = c.ranking-1.given in test_refused _ _ _ _ r.ensures _ c.in-Refused.is _ _ _
+returns-in-Refused c = let r = c.rank_checked-ranking in test_refused _ _ _ _ r.ensures _ c.in-Refused.is _ _ _
 
 pub returns-else-is_index : goal.returns-else-is_index
 returns-else-is_index c =
     let r = c.rank_checked-ranking in
-    let g = c.ranking-in-Ranked-1.given in
     test_done _ _ _ _ r.ensures _ c.in-Ranked.is _ _ _ false (sym c.is_index.ensures ∙ c.if-is_index.false)

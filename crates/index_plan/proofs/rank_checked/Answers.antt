@@ -8,5 +8,4 @@ returns-then-not-seed_length_right c = seed_wrong _ _ (sym c.seed_length_right.e
 
 pub returns : goal.returns
 returns c =
-    let s = c in
-    seed_fits _ _ (sym s.seed_length_right.ensures ∙ s.if-not-seed_length_right.false) _ _ c.rank_targets.ensures
+    seed_fits _ _ (sym c.seed_length_right.ensures ∙ c.if-not-seed_length_right.false) _ _ c.rank_targets.ensures

@@ -19,20 +19,19 @@ bounds-sequence-start c = omega (arith, c.loop-i-test.true, c.requires.laid.fits
 
 pub oriented_agrees-agree-requires : goal.oriented_agrees-agree-requires
 oriented_agrees-agree-requires c =
-    let s = c in
     record {
-      inside = omega (arith, c.loop-i-test.true, s.requires.from_le_end.1.0);
-      letter_right = letter_capital _ (every_at is_capital 0 s.args.sequence.now s.requires.laid.capitals _ (omega (arith, c.loop-i-test.true, s.requires.laid.fits, s.requires.from_le_end.1.0)));
-      letters_right = s.requires.laid.letters;
+      inside = omega (arith, c.loop-i-test.true, c.requires.from_le_end.1.0);
+      letter_right = letter_capital _ (every_at is_capital 0 c.args.sequence.now c.requires.laid.capitals _ (omega (arith, c.loop-i-test.true, c.requires.laid.fits, c.requires.from_le_end.1.0)));
+      letters_right = c.requires.laid.letters;
     }
 
 pub loop-i-preserved : goal.loop-i-preserved
 loop-i-preserved c =
-    let s = c in let a = s.args in let l = c.loop-i in
-    (omega (arith, c.loop-i-test.true), ap₂ (λ x y. x && y) l.invariant.1 c.oriented_agrees-agree.ensures ∙ sym (compared_next a.sequence.now a.start a.read.now a.strand s.requires.laid l.i (omega (arith, c.loop-i-test.true, s.requires.from_le_end.1.0))))
+    let a = c.args in let l = c.loop-i in
+    (omega (arith, c.loop-i-test.true), ap₂ (λ x y. x && y) l.invariant.1 c.oriented_agrees-agree.ensures ∙ sym (compared_next a.sequence.now a.start a.read.now a.strand c.requires.laid l.i (omega (arith, c.loop-i-test.true, c.requires.from_le_end.1.0))))
 
 pub returns : goal.returns
 returns c =
-    let s = c in let a = s.args in let l = c.loop-i in
+    let a = c.args in let l = c.loop-i in
     let e : l.i ≡ a.end = omega (arith, l.invariant.0, c.loop-i-test.false) in
     l.invariant.1 ∙ ap (λ n. stands_to n a.sequence.now a.start a.read.now a.strand) e

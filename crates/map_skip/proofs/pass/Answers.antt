@@ -10,27 +10,27 @@ use Rattle.map_skip.proofs.pass.Goals as goal
 
 pub ranked_sequence-sequence-requires : goal.ranked_sequence-sequence-requires
 ranked_sequence-sequence-requires c =
-    let s = c in let a = s.args in
-    (s.requires.searchable.lent, fit_ranked a.bases.now a.ends.now a.ranked.now a.read.now s.requires.searchable (place_of a.compared) s.requires.sides_lent.inside)
+    let a = c.args in
+    (c.requires.searchable.lent, fit_ranked a.bases.now a.ends.now a.ranked.now a.read.now c.requires.searchable (place_of a.compared) c.requires.sides_lent.inside)
 
 pub place_of_doubt-place-requires : goal.place_of_doubt-place-requires
 place_of_doubt-place-requires c =
-    let s = c in let a = s.args in
+    let a = c.args in
     let e = c.ranked_sequence-sequence.ensures in
     record {
-      fits = fit_inside a.bases.now a.ends.now a.ranked.now a.read.now s.requires.searchable (place_of a.compared) s.requires.sides_lent.inside _ e;
-      capitals = fit_capitals a.bases.now a.ends.now a.ranked.now a.read.now s.requires.searchable (place_of a.compared) s.requires.sides_lent.inside _ e;
-      letters = s.requires.searchable.letters;
+      fits = fit_inside a.bases.now a.ends.now a.ranked.now a.read.now c.requires.searchable (place_of a.compared) c.requires.sides_lent.inside _ e;
+      capitals = fit_capitals a.bases.now a.ends.now a.ranked.now a.read.now c.requires.searchable (place_of a.compared) c.requires.sides_lent.inside _ e;
+      letters = c.requires.searchable.letters;
     }
 
 pub pass_side-passed-requires : goal.pass_side-passed-requires
 pass_side-passed-requires c =
-    let s = c in let a = s.args in
+    let a = c.args in
     let waits = sym c.waits.ensures ∙ c.if-not-waits.false in
-    let e : c.side-first.result ≡ first_of a.sides = c.side-first.ensures ∙ ap (λ b. cond b a.sides.plus a.sides.minus) c.plus_first-plus.ensures in record { searchable = s.requires.searchable; candidate_lent = record {
+    let e : c.side-first.result ≡ first_of a.sides = c.side-first.ensures ∙ ap (λ b. cond b a.sides.plus a.sides.minus) c.plus_first-plus.ensures in record { searchable = c.requires.searchable; candidate_lent = record {
         waits = rw e (first_waits a.sides waits);
-        inside = rw e (s.requires.sides_lent.first_inside waits);
-        cursor_in = rw e (first_cursor a.sides a.ranks.now a.positions.now (length a.ranked.now) s.requires.sides_lent.cursors_in);
+        inside = rw e (c.requires.sides_lent.first_inside waits);
+        cursor_in = rw e (first_cursor a.sides a.ranks.now a.positions.now (length a.ranked.now) c.requires.sides_lent.cursors_in);
       } }
 
 pub returns-then-plus : goal.returns-then-plus

@@ -11,22 +11,22 @@ use Rattle.map_skip.proofs.pass_side.Goals as goal
 
 pub ranked_sequence-sequence-requires : goal.ranked_sequence-sequence-requires
 ranked_sequence-sequence-requires c =
-    let s = c in let a = s.args in
-    (s.requires.searchable.lent, fit_ranked a.bases.now a.ends.now a.ranked.now a.read.now s.requires.searchable (place_of a.first) s.requires.candidate_lent.inside)
+    let a = c.args in
+    (c.requires.searchable.lent, fit_ranked a.bases.now a.ends.now a.ranked.now a.read.now c.requires.searchable (place_of a.first) c.requires.candidate_lent.inside)
 
 pub loop-start-init : goal.loop-start-init
 loop-start-init c =
-    let s = c in let a = s.args in
-    passing_start (ranked_sequences a.bases.now a.ends.now a.ranked.now) a.read.now a.ranks.now a.positions.now a.first a.limit s.requires.candidate_lent.waits s.requires.candidate_lent.inside.inside
+    let a = c.args in
+    passing_start (ranked_sequences a.bases.now a.ends.now a.ranked.now) a.read.now a.ranks.now a.positions.now a.first a.limit c.requires.candidate_lent.waits c.requires.candidate_lent.inside.inside
 
 pub is_followed-requires : goal.is_followed-requires
 is_followed-requires c =
-    let s = c in let a = s.args in
+    let a = c.args in
     let e = c.ranked_sequence-sequence.ensures in record { laid = record {
         fits = omega (arith, c.loop-start.invariant.inside, ap length e);
-        capitals = fit_capitals a.bases.now a.ends.now a.ranked.now a.read.now s.requires.searchable (place_of a.first) s.requires.candidate_lent.inside _ e;
-        letters = s.requires.searchable.letters;
-      }; end_in_bounds = (s.requires.candidate_lent.cursor_in.in_ranks, s.requires.candidate_lent.cursor_in.in_positions) }
+        capitals = fit_capitals a.bases.now a.ends.now a.ranked.now a.read.now c.requires.searchable (place_of a.first) c.requires.candidate_lent.inside _ e;
+        letters = c.requires.searchable.letters;
+      }; end_in_bounds = (c.requires.candidate_lent.cursor_in.in_ranks, c.requires.candidate_lent.cursor_in.in_positions) }
 
 pub posting_position-requires : goal.posting_position-requires
 posting_position-requires c = let f = c.is_followed.ensures c.loop-start-test.true in omega (arith, f.inside, c.requires.candidate_lent.cursor_in.in_positions)

@@ -10,16 +10,14 @@ overflow_sub-sum c = omega (arith, c.loop-i.invariant.small)
 
 pub returns-then-sum-number : goal.returns-then-sum-number
 returns-then-sum-number c =
-    let l = c in
-    summed_stop l.args.numbers.now l.loop-i.i l.loop-i.sum l.loop-i.invariant l.args.total (omega arith) (omega (arith, c.if-sum-number.true))
+    summed_stop c.args.numbers.now c.loop-i.i c.loop-i.sum c.loop-i.invariant c.args.total (omega arith) (omega (arith, c.if-sum-number.true))
 
 pub overflow_add-sum : goal.overflow_add-sum
 overflow_add-sum c = omega (arith, c.loop-i.invariant.small, c.if-sum-number.false)
 
 pub loop-i-preserved : goal.loop-i-preserved
 loop-i-preserved c =
-    let l = c in
-    summed_next l.args.numbers.now l.loop-i.i l.loop-i.sum l.loop-i.invariant (omega arith) (omega (arith, c.if-sum-number.false))
+    summed_next c.args.numbers.now c.loop-i.i c.loop-i.sum c.loop-i.invariant (omega arith) (omega (arith, c.if-sum-number.false))
 
 pub returns : goal.returns
-returns c = let l = c in summed_end l.args.numbers.now l.loop-i.i l.loop-i.sum l.loop-i.invariant l.args.total (omega (arith, c.loop-i-test.false))
+returns c = summed_end c.args.numbers.now c.loop-i.i c.loop-i.sum c.loop-i.invariant c.args.total (omega (arith, c.loop-i-test.false))

@@ -6,15 +6,15 @@ use Rattle.bases.proofs.strand.oriented_agrees.Goals as goal
 
 pub returns-then-sum-eq21 : goal.returns-then-sum-eq21
 returns-then-sum-eq21 c =
-    let s = c in let a = s.args in
-    first_sum _ c.if-sum-eq21.true ∙ on_minus_agrees a.letter a.strand a.bases.now a.i s.requires (λ e. omega arith)
+    let a = c.args in
+    first_sum _ c.if-sum-eq21.true ∙ on_minus_agrees a.letter a.strand a.bases.now a.i c.requires (λ e. omega arith)
 
 pub returns-else-sum-eq21 : goal.returns-else-sum-eq21
 returns-else-sum-eq21 c =
-    let s = c in let a = s.args in
-    second_sum _ c.if-sum-eq21.false ∙ on_minus_agrees a.letter a.strand a.bases.now a.i s.requires (λ e. omega arith)
+    let a = c.args in
+    second_sum _ c.if-sum-eq21.false ∙ on_minus_agrees a.letter a.strand a.bases.now a.i c.requires (λ e. omega arith)
 
 pub returns : goal.returns
 returns c =
-    let s = c in let a = s.args in
-    on_plus_agrees a.letter a.strand a.bases.now a.i s.requires (omega arith)
+    let a = c.args in
+    on_plus_agrees a.letter a.strand a.bases.now a.i c.requires (omega arith)

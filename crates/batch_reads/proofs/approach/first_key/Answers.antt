@@ -4,4 +4,4 @@ use Rattle.index_seeds.proofs.Keying.{seed_in}
 use Rattle.batch_reads.proofs.approach.first_key.Goals as goal
 
 pub key_at-requires : goal.key_at-requires
-key_at-requires c = let s = c in record { table = s.requires.0; seed_in = seed_in _ s.args.q 0 s.requires.1.seed (omega (arith, c.if-read-q.false)) }
+key_at-requires c = record { table = c.requires.0; seed_in = seed_in _ c.args.q 0 c.requires.1.seed (omega (arith, c.if-read-q.false)) }

@@ -11,15 +11,13 @@ loop-i-init c = (omega arith, refl)
 
 pub returns-then-marks-i-gt1 : goal.returns-then-marks-i-gt1
 returns-then-marks-i-gt1 c =
-    let l = c in
-    let marks = l.args.marks.now in
-    sym (l.loop-i.invariant.1 ∙ every_fails (λ m. leb m 1) 0 marks l.loop-i.i c.loop-i-test.true (lt-leb (get_or marks l.loop-i.i 0) 1 (omega (arith, c.if-marks-i-gt1.true))))
+    let marks = c.args.marks.now in
+    sym (c.loop-i.invariant.1 ∙ every_fails (λ m. leb m 1) 0 marks c.loop-i.i c.loop-i-test.true (lt-leb (get_or marks c.loop-i.i 0) 1 (omega (arith, c.if-marks-i-gt1.true))))
 
 pub loop-i-preserved : goal.loop-i-preserved
 loop-i-preserved c =
-    let l = c in
-    let marks = l.args.marks.now in
-    (omega arith, l.loop-i.invariant.1 ∙ every_passes (λ m. leb m 1) 0 marks l.loop-i.i c.loop-i-test.true (le-leb (get_or marks l.loop-i.i 0) 1 (omega (arith, c.if-marks-i-gt1.false))))
+    let marks = c.args.marks.now in
+    (omega arith, c.loop-i.invariant.1 ∙ every_passes (λ m. leb m 1) 0 marks c.loop-i.i c.loop-i-test.true (le-leb (get_or marks c.loop-i.i 0) 1 (omega (arith, c.if-marks-i-gt1.false))))
 
 pub returns : goal.returns
 returns c = let a = c.args in sym (c.loop-i.invariant.1 ∙ every_end (λ m. leb m 1) a.marks.now _ c.loop-i-test.false)

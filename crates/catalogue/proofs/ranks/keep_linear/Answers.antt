@@ -13,9 +13,8 @@ bounds-marks-place c =
 
 pub loop-i-preserved : goal.loop-i-preserved
 loop-i-preserved c =
-    let l = c in
-    let a = l.args in
-    filtering_next (linear_at a.marks.now) a.order.now l.loop-i.order _ _ l.loop-i.invariant (omega (arith, l.loop-i.invariant.long)) c.keep_place-kept.ensures
+    let a = c.args in
+    filtering_next (linear_at a.marks.now) a.order.now c.loop-i.order _ _ c.loop-i.invariant (omega (arith, c.loop-i.invariant.long)) c.keep_place-kept.ensures
 
 pub returns : goal.returns
 returns c =

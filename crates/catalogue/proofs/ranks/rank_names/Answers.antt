@@ -9,19 +9,13 @@ use Rattle.catalogue.proofs.ranks.rank_names.Goals as goal
 
 pub returns-then-not-order_names : goal.returns-then-not-order_names
 returns-then-not-order_names c =
-    let o = c in
-    let s = o in
-    names_refused (cut s.args.ends.now s.args.identifiers.now) s.args.marks.now (sym c.order_names.ensures.distinct ∙ c.if-not-order_names.true) (omega arith) _
+    names_refused (cut c.args.ends.now c.args.identifiers.now) c.args.marks.now (sym c.order_names.ensures.distinct ∙ c.if-not-order_names.true) (omega arith) _
 
 pub keep_linear-requires : goal.keep_linear-requires
 keep_linear-requires c =
-    let o = c in
-    let s = o in
-    ap (every _) (c.order_names.ensures.places c.if-not-order_names.false) ∙ places_below (cut s.args.ends.now s.args.identifiers.now) _ (omega (arith, length_cut 0 s.args.ends.now s.args.identifiers.now, s.requires.marked))
+    ap (every _) (c.order_names.ensures.places c.if-not-order_names.false) ∙ places_below (cut c.args.ends.now c.args.identifiers.now) _ (omega (arith, length_cut 0 c.args.ends.now c.args.identifiers.now, c.requires.marked))
 
 pub returns : goal.returns
 returns c =
-    let o = c in
-    let s = o in
     let d = c.if-not-order_names.false in
-    names_ranked (cut s.args.ends.now s.args.identifiers.now) s.args.marks.now (sym c.order_names.ensures.distinct ∙ d) _ _ _ (c.order_names.ensures.places d) c.keep_linear.ensures
+    names_ranked (cut c.args.ends.now c.args.identifiers.now) c.args.marks.now (sym c.order_names.ensures.distinct ∙ d) _ _ _ (c.order_names.ensures.places d) c.keep_linear.ensures

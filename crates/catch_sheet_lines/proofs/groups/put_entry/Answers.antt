@@ -8,13 +8,11 @@ use Rattle.catch_sheet_lines.proofs.groups.put_entry.Goals as goal
 
 pub put_group-requires : goal.put_group-requires
 put_group-requires c =
-    let s = c in
-    let a = s.args in
-    name_room _ _ c.sequence_at-name.ensures (s.requires.0.named.short (get_or a.entries.now (a.i * 4) 0)) _ _ s.requires.1
+    let a = c.args in
+    name_room _ _ c.sequence_at-name.ensures (c.requires.0.named.short (get_or a.entries.now (a.i * 4) 0)) _ _ c.requires.1
 
 pub returns : goal.returns
 returns c =
-    let s = c in
-    let a = s.args in
-    name_told _ _ c.sequence_at-name.ensures (s.requires.0.named.short (get_or a.entries.now (a.i * 4) 0))
+    let a = c.args in
+    name_told _ _ c.sequence_at-name.ensures (c.requires.0.named.short (get_or a.entries.now (a.i * 4) 0))
     (λ (l : List ℕ). group_line l (get_or a.entries.now (a.i * 4 + 1) 0) (get_or a.entries.now (a.i * 4 + 2) 0) (get_or a.entries.now (a.i * 4 + 3) 0)) c.put_group.ensures

@@ -10,9 +10,8 @@ loop-i-init c = listed_none _ _ _ _ refl
 
 pub put_entry-p-requires : goal.put_entry-p-requires
 put_entry-p-requires c =
-    let s = c in
     let l = c.loop-i in
-    (record { named = s.requires.0.named; listed = omega arith; placed = s.requires.0.placed l.i c.loop-i-test.true }, listed-room l.invariant c.loop-i-test.true s.requires.1)
+    (record { named = c.requires.0.named; listed = omega arith; placed = c.requires.0.placed l.i c.loop-i-test.true }, listed-room l.invariant c.loop-i-test.true c.requires.1)
 
 pub loop-i-preserved : goal.loop-i-preserved
 loop-i-preserved c =

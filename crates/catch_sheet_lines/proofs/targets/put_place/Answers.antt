@@ -13,16 +13,14 @@ sequence_at-name-requires c = (c.requires.0.named.right, omega arith)
 
 pub put_target-requires : goal.put_target-requires
 put_target-requires c =
-    let s = c in
-    let a = s.args in
+    let a = c.args in
     let t = c.sequence_at-name in
-    name_room (get_or (cut a.ends.now a.identifiers.now) a.i []) t.result.now t.ensures (s.requires.0.named.short a.i) _ _ s.requires.1
+    name_room (get_or (cut a.ends.now a.identifiers.now) a.i []) t.result.now t.ensures (c.requires.0.named.short a.i) _ _ c.requires.1
 
 pub returns : goal.returns
 returns c =
     let told = c.target_shown-shown.ensures in
-    let s = c in
-    let a = s.args in
+    let a = c.args in
     let t = c.sequence_at-name in
     rw told at
-    (name_told (get_or (cut a.ends.now a.identifiers.now) a.i []) t.result.now t.ensures (s.requires.0.named.short a.i) (λ (l : List ℕ). target_line l c.target_shown-shown.result) c.put_target.ensures)
+    (name_told (get_or (cut a.ends.now a.identifiers.now) a.i []) t.result.now t.ensures (c.requires.0.named.short a.i) (λ (l : List ℕ). target_line l c.target_shown-shown.result) c.put_target.ensures)

@@ -8,10 +8,9 @@ loop-i-init c = listed_none _ _ _ _ refl
 
 pub put_place-p-requires : goal.put_place-p-requires
 put_place-p-requires c =
-    let s = c in
-    let t = s.requires.0 in
+    let t = c.requires.0 in
     let l = c.loop-i in
-    (record { named = t.named; ended = omega arith; marked = omega arith; placed = omega arith; single = omega arith; several = omega arith }, listed-room l.invariant c.loop-i-test.true s.requires.1)
+    (record { named = t.named; ended = omega arith; marked = omega arith; placed = omega arith; single = omega arith; several = omega arith }, listed-room l.invariant c.loop-i-test.true c.requires.1)
 
 pub loop-i-preserved : goal.loop-i-preserved
 loop-i-preserved c = listed_more c.loop-i.invariant c.loop-i-test.true refl c.put_place-p.ensures c.put_place-p.auto.out

@@ -4,5 +4,4 @@ use Rattle.index_lookup.proofs.lookup.first_step.Goals as goal
 
 pub overflow_sub-quarter : goal.overflow_sub-quarter
 overflow_sub-quarter c =
-    let s = c in
-    rising_ends s.args.keys.now s.requires.rising s.requires.keys_nonzero _ _ c.posting_key-first.ensures c.posting_key-last.ensures
+    rising_ends c.args.keys.now c.requires.rising c.requires.keys_nonzero _ _ c.posting_key-first.ensures c.posting_key-last.ensures

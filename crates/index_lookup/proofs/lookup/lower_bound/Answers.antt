@@ -30,11 +30,10 @@ loop-low-smaller-then-key-bound c =
 
 pub loop-low-preserved-then-key-bound : goal.loop-low-preserved-then-key-bound
 loop-low-preserved-then-key-bound c =
-    let s = c in
     let at = c.loop-low in
     let w = at.invariant.within c.loop-low-test.true in
     record {
-      between = go_higher s.args.keys.now s.args.bound _ _ at.invariant.between s.requires.rising at.mid w.0 w.1 _ c.posting_key-key.ensures (omega (arith, c.if-key-bound.true));
+      between = go_higher c.args.keys.now c.args.bound _ _ at.invariant.between c.requires.rising at.mid w.0 w.1 _ c.posting_key-key.ensures (omega (arith, c.if-key-bound.true));
       within = c.probe_after-mid.ensures;
     }
 
@@ -49,11 +48,10 @@ loop-low-smaller c =
 
 pub loop-low-preserved : goal.loop-low-preserved
 loop-low-preserved c =
-    let s = c in
     let at = c.loop-low in
     let w = at.invariant.within c.loop-low-test.true in
     record {
-      between = go_lower s.args.keys.now s.args.bound _ _ at.invariant.between s.requires.rising at.mid w.0 w.1 _ c.posting_key-key.ensures (omega (arith, c.if-key-bound.false));
+      between = go_lower c.args.keys.now c.args.bound _ _ at.invariant.between c.requires.rising at.mid w.0 w.1 _ c.posting_key-key.ensures (omega (arith, c.if-key-bound.false));
       within = c.probe_before-mid.ensures;
     }
 

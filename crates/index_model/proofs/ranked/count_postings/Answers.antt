@@ -15,15 +15,13 @@ count_starts-count-requires c = c.requires.1
 
 pub overflow_add-count : goal.overflow_add-count
 overflow_add-count c =
-    let s = c in
-    let many = ranked_many s.args.bases.now s.args.ends.now s.args.ranked.now in
-    let m = counting_next _ _ _ _ s.requires _ c.loop-rank-test.true _ c.loop-rank.invariant in
-    omega (arith, m.counted, m.reached.bounded, m.reached.inside, many, s.requires.0.few, c.count_starts-count.ensures, ap (starts s.args.q) c.ranked_sequence-sequence.ensures)
+    let many = ranked_many c.args.bases.now c.args.ends.now c.args.ranked.now in
+    let m = counting_next _ _ _ _ c.requires _ c.loop-rank-test.true _ c.loop-rank.invariant in
+    omega (arith, m.counted, m.reached.bounded, m.reached.inside, many, c.requires.0.few, c.count_starts-count.ensures, ap (starts c.args.q) c.ranked_sequence-sequence.ensures)
 
 pub loop-rank-preserved : goal.loop-rank-preserved
 loop-rank-preserved c =
-    let s = c in
-    rw (c.count_starts-count.ensures, c.ranked_sequence-sequence.ensures) (counting_next _ _ _ _ s.requires _ c.loop-rank-test.true _ c.loop-rank.invariant)
+    rw (c.count_starts-count.ensures, c.ranked_sequence-sequence.ensures) (counting_next _ _ _ _ c.requires _ c.loop-rank-test.true _ c.loop-rank.invariant)
 
 pub returns : goal.returns
 returns c =

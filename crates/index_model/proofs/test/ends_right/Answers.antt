@@ -31,23 +31,20 @@ returns-then-sequence-q-2 c =
 
 pub overflow_mul-oriented_code : goal.overflow_mul-oriented_code
 overflow_mul-oriented_code c =
-    let b = c in
-    record { fits = first_fits b.args.q b.requires.lent.1.0 _ _ _ c.oriented_code.ensures b.requires.lent.1.1 }
+    record { fits = first_fits c.args.q c.requires.lent.1.0 _ _ _ c.oriented_code.ensures c.requires.lent.1.1 }
 
 pub returns-then-key-oriented_code : goal.returns-then-key-oriented_code
 returns-then-key-oriented_code c =
-    let b = c in
-    let a = b.args in
+    let a = c.args in
     let ss = ranked_sequences a.bases.now a.ends.now a.ranked.now in
     let z = ranked_many a.bases.now a.ends.now a.ranked.now in
     let s = c.ranked_sequence-sequence in
-    by_first a.q ss a.key a.rank a.position b.requires.lent.1.0.some (omega (arith, z, c.if-rank-ranked.false)) s.result.now s.ensures (omega arith) _ _ c.oriented_code.ensures b.requires.lent.1.1 c.if-key-oriented_code.true
+    by_first a.q ss a.key a.rank a.position c.requires.lent.1.0.some (omega (arith, z, c.if-rank-ranked.false)) s.result.now s.ensures (omega arith) _ _ c.oriented_code.ensures c.requires.lent.1.1 c.if-key-oriented_code.true
 
 pub returns : goal.returns
 returns c =
-    let b = c in
-    let a = b.args in
+    let a = c.args in
     let ss = ranked_sequences a.bases.now a.ends.now a.ranked.now in
     let z = ranked_many a.bases.now a.ends.now a.ranked.now in
     let s = c.ranked_sequence-sequence in
-    by_last a.q ss a.key a.rank a.position b.requires.lent.1.0.some (omega (arith, z, c.if-rank-ranked.false)) s.result.now s.ensures (omega arith) b.requires.lent.0.capitals _ _ c.oriented_code-2.ensures (omega arith)
+    by_last a.q ss a.key a.rank a.position c.requires.lent.1.0.some (omega (arith, z, c.if-rank-ranked.false)) s.result.now s.ensures (omega arith) c.requires.lent.0.capitals _ _ c.oriented_code-2.ensures (omega arith)

@@ -11,7 +11,7 @@ pub returns-then-sequence-q-2 : goal.returns-then-sequence-q-2
 returns-then-sequence-q-2 c = let a = c.args in late_start a.q a.sequence.now a.start a.key c.if-sequence-q.false c.if-sequence-q-2.true
 
 pub key_by_fours-requires : goal.key_by_fours-requires
-key_by_fours-requires c = let s = c in record { table = s.requires.table; seed_in = seed_in s.args.sequence.now s.args.q s.args.start s.requires.seed_length.0 (omega arith); sequence_value = s.requires.seed_length.1 }
+key_by_fours-requires c = record { table = c.requires.table; seed_in = seed_in c.args.sequence.now c.args.q c.args.start c.requires.seed_length.0 (omega arith); sequence_value = c.requires.seed_length.1 }
 
 pub returns : goal.returns
 returns c =

@@ -18,9 +18,8 @@ ranked_sequence-sequence-requires c = (c.requires.lent.0, omega (arith, c.if-ran
 
 pub has_seed-requires : goal.has_seed-requires
 has_seed-requires c =
-    let b = c in
-    let a = b.args in
-    let z = ranked_many a.bases.now a.ends.now a.ranked.now in record { table = b.requires.table; seed_length = (b.requires.lent.1, rank_capitals (ranked_sequences a.bases.now a.ends.now a.ranked.now) a.rank b.requires.lent.0.capitals (omega (arith, z, c.if-ranked-rank.false)) _ c.ranked_sequence-sequence.ensures) }
+    let a = c.args in
+    let z = ranked_many a.bases.now a.ends.now a.ranked.now in record { table = c.requires.table; seed_length = (c.requires.lent.1, rank_capitals (ranked_sequences a.bases.now a.ends.now a.ranked.now) a.rank c.requires.lent.0.capitals (omega (arith, z, c.if-ranked-rank.false)) _ c.ranked_sequence-sequence.ensures) }
 
 pub returns : goal.returns
 returns c =

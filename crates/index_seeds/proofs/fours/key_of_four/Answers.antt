@@ -19,9 +19,8 @@ pub overflow_cast-d : goal.overflow_cast-d
 overflow_cast-d c = let a = c.args in omega (arith, c.shared_slice_known-5-1.given (a.at + 3))
 
 pub key_of_capitals-requires : goal.key_of_capitals-requires
-key_of_capitals-requires c = let s = c in four_capitals s.args.sequence.now s.args.at s.requires
+key_of_capitals-requires c = four_capitals c.args.sequence.now c.args.at c.requires
 
 pub returns : goal.returns
 returns c =
-    let s = c in
-    c.key_of_capitals.ensures ∙ ap key_of (sym (window_four s.args.sequence.now s.args.at s.requires.inside))
+    c.key_of_capitals.ensures ∙ ap key_of (sym (window_four c.args.sequence.now c.args.at c.requires.inside))

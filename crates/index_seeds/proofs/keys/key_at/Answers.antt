@@ -3,4 +3,4 @@ use Rattle.index_seeds.proofs.Keying.{digits_start}
 use Rattle.index_seeds.proofs.keys.key_at.Goals as goal
 
 pub key_from-requires : goal.key_from-requires
-key_from-requires c = let s = c in record { table = s.requires.table; seed_in = s.requires.seed_in; key_begun = digits_start _ _ _ }
+key_from-requires c = record { table = c.requires.table; seed_in = c.requires.seed_in; key_begun = digits_start _ _ _ }

@@ -13,23 +13,19 @@ oriented_code-code-requires c = c.requires.table
 
 pub overflow_mul-key : goal.overflow_mul-key
 overflow_mul-key c =
-    let s = c in
-    let d = digits_next s.args.strand s.args.sequence.now s.args.start s.args.q _ _ s.requires.seed_in c.loop-i.invariant c.loop-i-test.true _ c.oriented_code-code.ensures in
+    let d = digits_next c.args.strand c.args.sequence.now c.args.start c.args.q _ _ c.requires.seed_in c.loop-i.invariant c.loop-i-test.true _ c.oriented_code-code.ensures in
     omega (arith, d.room, d.small)
 
 pub overflow_add-key : goal.overflow_add-key
 overflow_add-key c =
-    let s = c in
-    let d = digits_next s.args.strand s.args.sequence.now s.args.start s.args.q _ _ s.requires.seed_in c.loop-i.invariant c.loop-i-test.true _ c.oriented_code-code.ensures in
+    let d = digits_next c.args.strand c.args.sequence.now c.args.start c.args.q _ _ c.requires.seed_in c.loop-i.invariant c.loop-i-test.true _ c.oriented_code-code.ensures in
     omega (arith, d.room, d.small)
 
 pub loop-i-preserved : goal.loop-i-preserved
 loop-i-preserved c =
-    let s = c in
-    let d = digits_next s.args.strand s.args.sequence.now s.args.start s.args.q _ _ s.requires.seed_in c.loop-i.invariant c.loop-i-test.true _ c.oriented_code-code.ensures in
+    let d = digits_next c.args.strand c.args.sequence.now c.args.start c.args.q _ _ c.requires.seed_in c.loop-i.invariant c.loop-i-test.true _ c.oriented_code-code.ensures in
     record { inside = omega (arith, d.next.inside); digits = omega (arith, d.next.digits) }
 
 pub returns : goal.returns
 returns c =
-    let s = c in
-    digits_end s.args.strand s.args.sequence.now s.args.start s.args.q _ _ s.requires.seed_in c.loop-i.invariant c.loop-i-test.false
+    digits_end c.args.strand c.args.sequence.now c.args.start c.args.q _ _ c.requires.seed_in c.loop-i.invariant c.loop-i-test.false

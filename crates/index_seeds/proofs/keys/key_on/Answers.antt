@@ -15,7 +15,7 @@ returns-then-start-eq0 c =
 
 pub key_next-requires : goal.key_next-requires
 key_next-requires c =
-    let s = c in record { table = s.requires.table; seed_in = seed_in s.args.sequence.now s.args.q _ s.requires.seed_in.size (omega (arith, seed_end _ _ _ s.requires.seed_in)); key_held = s.requires.key_held }
+    record { table = c.requires.table; seed_in = seed_in c.args.sequence.now c.args.q _ c.requires.seed_in.size (omega (arith, seed_end _ _ _ c.requires.seed_in)); key_held = c.requires.key_held }
 
 pub returns : goal.returns
 returns c =

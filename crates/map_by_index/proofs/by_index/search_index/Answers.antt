@@ -8,75 +8,67 @@ use Rattle.map_by_index.proofs.by_index.search_index.Goals as goal
 
 pub rarest_seed-plus-requires : goal.rarest_seed-plus-requires
 rarest_seed-plus-requires c =
-    let z = c in
-    ready_choice _ _ _ _ _ _ _ _ z.requires.index_searchable z.requires.q_in_bounds.0
+    ready_choice _ _ _ _ _ _ _ _ c.requires.index_searchable c.requires.q_in_bounds.0
 
 pub rarest_seed-minus-requires : goal.rarest_seed-minus-requires
 rarest_seed-minus-requires c =
-    let z = c in
-    ready_choice _ _ _ _ _ _ _ _ z.requires.index_searchable z.requires.q_in_bounds.0
+    ready_choice _ _ _ _ _ _ _ _ c.requires.index_searchable c.requires.q_in_bounds.0
 
 pub first_candidates-sides-requires : goal.first_candidates-sides-requires
 first_candidates-sides-requires c =
-    let z = c in
     let f = c.cursor_over-forward.ensures in
     let g = c.cursor_over-backward.ensures in
     let p = c.rarest_seed-plus.ensures in
     let m = c.rarest_seed-minus.ensures in
-    (z.requires.index_searchable.searchable.lent, record { plus_in = ready_cursor _ _ _ _ _ _ _ _ z.requires.index_searchable z.requires.q_in_bounds.0 _ _ (omega (arith, f.next_is, f.end_is, p.range_is.ordered)) (omega (arith, f.end_is, p.range_is.inside)); minus_in = ready_cursor _ _ _ _ _ _ _ _ z.requires.index_searchable z.requires.q_in_bounds.0 _ _ (omega (arith, g.next_is, g.end_is, m.range_is.ordered)) (omega (arith, g.end_is, m.range_is.inside)) })
+    (c.requires.index_searchable.searchable.lent, record { plus_in = ready_cursor _ _ _ _ _ _ _ _ c.requires.index_searchable c.requires.q_in_bounds.0 _ _ (omega (arith, f.next_is, f.end_is, p.range_is.ordered)) (omega (arith, f.end_is, p.range_is.inside)); minus_in = ready_cursor _ _ _ _ _ _ _ _ c.requires.index_searchable c.requires.q_in_bounds.0 _ _ (omega (arith, g.next_is, g.end_is, m.range_is.ordered)) (omega (arith, g.end_is, m.range_is.inside)) })
 
 pub loop-plus_first-init : goal.loop-plus_first-init
 loop-plus_first-init c =
-    let z = c in
-    let a = z.args in
+    let a = c.args in
     let p = c.rarest_seed-plus.ensures in
     let m = c.rarest_seed-minus.ensures in
     let ss = ranked_sequences a.bases.now a.ends.now a.ranked.now in
-    let ch = ready_chosen _ _ _ _ _ _ _ _ z.requires.index_searchable z.requires.q_in_bounds.0 _ _ p m _ _ z.requires.q_in_bounds.1 in
+    let ch = ready_chosen _ _ _ _ _ _ _ _ c.requires.index_searchable c.requires.q_in_bounds.0 _ _ p m _ _ c.requires.q_in_bounds.1 in
     let f = c.cursor_over-forward.ensures in
     let g = c.cursor_over-backward.ensures in
     both_start _ ss a.ranked.now _ _ _ _ _ _ _ _ ch _ _ _ f g c.first_candidates-sides.ensures
 
 pub visit-tally-requires : goal.visit-tally-requires
 visit-tally-requires c =
-    let z = c in
-    let a = z.args in
+    let a = c.args in
     let p = c.rarest_seed-plus.ensures in
     let m = c.rarest_seed-minus.ensures in
     let ss = ranked_sequences a.bases.now a.ends.now a.ranked.now in
-    let ch = ready_chosen _ _ _ _ _ _ _ _ z.requires.index_searchable z.requires.q_in_bounds.0 _ _ p m _ _ z.requires.q_in_bounds.1 in
+    let ch = ready_chosen _ _ _ _ _ _ _ _ c.requires.index_searchable c.requires.q_in_bounds.0 _ _ p m _ _ c.requires.q_in_bounds.1 in
     let at = c.loop-plus_first.invariant in
     let first = c.plus_first-plus_first.ensures in
     let waits = sym c.waits.ensures ∙ c.loop-plus_first-test.true in
-    let next = c.side-next.ensures in record { searchable = z.requires.index_searchable.searchable; fits_at = (both_fits _ ss a.ranked.now _ _ _ _ _ _ _ _ ch _ _ _ _ at _ first waits _ next, both_going _ ss a.ranked.now _ _ _ _ _ _ _ _ ch _ _ _ _ at _ first waits _ next) }
+    let next = c.side-next.ensures in record { searchable = c.requires.index_searchable.searchable; fits_at = (both_fits _ ss a.ranked.now _ _ _ _ _ _ _ _ ch _ _ _ _ at _ first waits _ next, both_going _ ss a.ranked.now _ _ _ _ _ _ _ _ ch _ _ _ _ at _ first waits _ next) }
 
 pub index_work-requires : goal.index_work-requires
 index_work-requires c =
-    let z = c in
-    let a = z.args in
+    let a = c.args in
     let p = c.rarest_seed-plus.ensures in
     let m = c.rarest_seed-minus.ensures in
-    ready_spans _ _ _ _ _ _ _ _ z.requires.index_searchable z.requires.q_in_bounds.0 _ _ p m a.bound a.entries.now _ _ _ _ c.loop-plus_first.invariant
+    ready_spans _ _ _ _ _ _ _ _ c.requires.index_searchable c.requires.q_in_bounds.0 _ _ p m a.bound a.entries.now _ _ _ _ c.loop-plus_first.invariant
 
 pub shape_of-entries-then-bound-tally : goal.shape_of-entries-then-bound-tally
 shape_of-entries-then-bound-tally c =
-    let z = c in
-    let a = z.args in
+    let a = c.args in
     let p = c.rarest_seed-plus.ensures in
     let m = c.rarest_seed-minus.ensures in
     let ss = ranked_sequences a.bases.now a.ends.now a.ranked.now in
-    let ch = ready_chosen _ _ _ _ _ _ _ _ z.requires.index_searchable z.requires.q_in_bounds.0 _ _ p m _ _ z.requires.q_in_bounds.1 in
+    let ch = ready_chosen _ _ _ _ _ _ _ _ c.requires.index_searchable c.requires.q_in_bounds.0 _ _ p m _ _ c.requires.q_in_bounds.1 in
     let at = c.loop-plus_first.invariant in
     omega (arith, both_length _ ss a.ranked.now _ _ _ _ _ _ _ _ ch _ _ _ _ at, c.visit-tally.auto)
 
 pub returns-then-bound-tally : goal.returns-then-bound-tally
 returns-then-bound-tally c =
-    let z = c in
-    let a = z.args in
+    let a = c.args in
     let p = c.rarest_seed-plus.ensures in
     let m = c.rarest_seed-minus.ensures in
     let ss = ranked_sequences a.bases.now a.ends.now a.ranked.now in
-    let ch = ready_chosen _ _ _ _ _ _ _ _ z.requires.index_searchable z.requires.q_in_bounds.0 _ _ p m _ _ z.requires.q_in_bounds.1 in
+    let ch = ready_chosen _ _ _ _ _ _ _ _ c.requires.index_searchable c.requires.q_in_bounds.0 _ _ p m _ _ c.requires.q_in_bounds.1 in
     let at = c.loop-plus_first.invariant in
     let first = c.plus_first-plus_first.ensures in
     let waits = sym c.waits.ensures ∙ c.loop-plus_first-test.true in
@@ -85,38 +77,35 @@ returns-then-bound-tally c =
 
 pub moved-sides-requires : goal.moved-sides-requires
 moved-sides-requires c =
-    let z = c in
-    let a = z.args in
+    let a = c.args in
     let p = c.rarest_seed-plus.ensures in
     let m = c.rarest_seed-minus.ensures in
-    (z.requires.index_searchable.searchable.lent, ready_cursors _ _ _ _ _ _ _ _ z.requires.index_searchable z.requires.q_in_bounds.0 _ _ p m a.bound a.entries.now _ _ _ _ c.loop-plus_first.invariant)
+    (c.requires.index_searchable.searchable.lent, ready_cursors _ _ _ _ _ _ _ _ c.requires.index_searchable c.requires.q_in_bounds.0 _ _ p m a.bound a.entries.now _ _ _ _ c.loop-plus_first.invariant)
 
 pub pass-passed-requires : goal.pass-passed-requires
 pass-passed-requires c =
-    let z = c in
-    let a = z.args in
+    let a = c.args in
     let p = c.rarest_seed-plus.ensures in
     let m = c.rarest_seed-minus.ensures in
     let ss = ranked_sequences a.bases.now a.ends.now a.ranked.now in
-    let ch = ready_chosen _ _ _ _ _ _ _ _ z.requires.index_searchable z.requires.q_in_bounds.0 _ _ p m _ _ z.requires.q_in_bounds.1 in
+    let ch = ready_chosen _ _ _ _ _ _ _ _ c.requires.index_searchable c.requires.q_in_bounds.0 _ _ p m _ _ c.requires.q_in_bounds.1 in
     let at = c.loop-plus_first.invariant in
     let first = c.plus_first-plus_first.ensures in
     let waits = sym c.waits.ensures ∙ c.loop-plus_first-test.true in
     let next = c.side-next.ensures in
-    let on = both_more _ ss a.ranked.now _ _ _ _ _ _ _ _ ch _ _ _ _ at _ first waits _ next _ _ _ c.visit-tally.ensures (omega (arith, c.if-bound-tally.false)) _ c.moved-sides.ensures in record { searchable = z.requires.index_searchable.searchable; sides_lent = record {
+    let on = both_more _ ss a.ranked.now _ _ _ _ _ _ _ _ ch _ _ _ _ at _ first waits _ next _ _ _ c.visit-tally.ensures (omega (arith, c.if-bound-tally.false)) _ c.moved-sides.ensures in record { searchable = c.requires.index_searchable.searchable; sides_lent = record {
         inside = both_fits _ ss a.ranked.now _ _ _ _ _ _ _ _ ch _ _ _ _ at _ first waits _ next;
         first_inside = λ w. both_fits _ ss a.ranked.now _ _ _ _ _ _ _ _ ch _ _ _ _ on _ refl w _ refl;
-        cursors_in = ready_cursors _ _ _ _ _ _ _ _ z.requires.index_searchable z.requires.q_in_bounds.0 _ _ p m a.bound a.entries.now _ _ _ _ on;
+        cursors_in = ready_cursors _ _ _ _ _ _ _ _ c.requires.index_searchable c.requires.q_in_bounds.0 _ _ p m a.bound a.entries.now _ _ _ _ on;
       } }
 
 pub counted-tally-requires : goal.counted-tally-requires
 counted-tally-requires c =
-    let z = c in
-    let a = z.args in
+    let a = c.args in
     let p = c.rarest_seed-plus.ensures in
     let m = c.rarest_seed-minus.ensures in
     let ss = ranked_sequences a.bases.now a.ends.now a.ranked.now in
-    let ch = ready_chosen _ _ _ _ _ _ _ _ z.requires.index_searchable z.requires.q_in_bounds.0 _ _ p m _ _ z.requires.q_in_bounds.1 in
+    let ch = ready_chosen _ _ _ _ _ _ _ _ c.requires.index_searchable c.requires.q_in_bounds.0 _ _ p m _ _ c.requires.q_in_bounds.1 in
     let at = c.loop-plus_first.invariant in
     let first = c.plus_first-plus_first.ensures in
     let waits = sym c.waits.ensures ∙ c.loop-plus_first-test.true in
@@ -126,12 +115,11 @@ counted-tally-requires c =
 
 pub loop-plus_first-smaller : goal.loop-plus_first-smaller
 loop-plus_first-smaller c =
-    let z = c in
-    let a = z.args in
+    let a = c.args in
     let p = c.rarest_seed-plus.ensures in
     let m = c.rarest_seed-minus.ensures in
     let ss = ranked_sequences a.bases.now a.ends.now a.ranked.now in
-    let ch = ready_chosen _ _ _ _ _ _ _ _ z.requires.index_searchable z.requires.q_in_bounds.0 _ _ p m _ _ z.requires.q_in_bounds.1 in
+    let ch = ready_chosen _ _ _ _ _ _ _ _ c.requires.index_searchable c.requires.q_in_bounds.0 _ _ p m _ _ c.requires.q_in_bounds.1 in
     let at = c.loop-plus_first.invariant in
     let first = c.plus_first-plus_first.ensures in
     let waits = sym c.waits.ensures ∙ c.loop-plus_first-test.true in
@@ -141,12 +129,11 @@ loop-plus_first-smaller c =
 
 pub loop-plus_first-preserved : goal.loop-plus_first-preserved
 loop-plus_first-preserved c =
-    let z = c in
-    let a = z.args in
+    let a = c.args in
     let p = c.rarest_seed-plus.ensures in
     let m = c.rarest_seed-minus.ensures in
     let ss = ranked_sequences a.bases.now a.ends.now a.ranked.now in
-    let ch = ready_chosen _ _ _ _ _ _ _ _ z.requires.index_searchable z.requires.q_in_bounds.0 _ _ p m _ _ z.requires.q_in_bounds.1 in
+    let ch = ready_chosen _ _ _ _ _ _ _ _ c.requires.index_searchable c.requires.q_in_bounds.0 _ _ p m _ _ c.requires.q_in_bounds.1 in
     let at = c.loop-plus_first.invariant in
     let first = c.plus_first-plus_first.ensures in
     let waits = sym c.waits.ensures ∙ c.loop-plus_first-test.true in
@@ -157,28 +144,25 @@ loop-plus_first-preserved c =
 
 pub index_work-requires-2 : goal.index_work-requires-2
 index_work-requires-2 c =
-    let z = c in
-    let a = z.args in
+    let a = c.args in
     let p = c.rarest_seed-plus.ensures in
     let m = c.rarest_seed-minus.ensures in
-    ready_spans _ _ _ _ _ _ _ _ z.requires.index_searchable z.requires.q_in_bounds.0 _ _ p m a.bound a.entries.now _ _ _ _ c.loop-plus_first.invariant
+    ready_spans _ _ _ _ _ _ _ _ c.requires.index_searchable c.requires.q_in_bounds.0 _ _ p m a.bound a.entries.now _ _ _ _ c.loop-plus_first.invariant
 
 pub shape_of-entries : goal.shape_of-entries
 shape_of-entries c =
-    let z = c in
-    let a = z.args in
+    let a = c.args in
     let p = c.rarest_seed-plus.ensures in
     let m = c.rarest_seed-minus.ensures in
     let ss = ranked_sequences a.bases.now a.ends.now a.ranked.now in
-    let ch = ready_chosen _ _ _ _ _ _ _ _ z.requires.index_searchable z.requires.q_in_bounds.0 _ _ p m _ _ z.requires.q_in_bounds.1 in
+    let ch = ready_chosen _ _ _ _ _ _ _ _ c.requires.index_searchable c.requires.q_in_bounds.0 _ _ p m _ _ c.requires.q_in_bounds.1 in
     both_length _ ss a.ranked.now _ _ _ _ _ _ _ _ ch _ _ _ _ c.loop-plus_first.invariant
 
 pub returns : goal.returns
 returns c =
-    let z = c in
-    let a = z.args in
+    let a = c.args in
     let p = c.rarest_seed-plus.ensures in
     let m = c.rarest_seed-minus.ensures in
     let ss = ranked_sequences a.bases.now a.ends.now a.ranked.now in
-    let ch = ready_chosen _ _ _ _ _ _ _ _ z.requires.index_searchable z.requires.q_in_bounds.0 _ _ p m _ _ z.requires.q_in_bounds.1 in
+    let ch = ready_chosen _ _ _ _ _ _ _ _ c.requires.index_searchable c.requires.q_in_bounds.0 _ _ p m _ _ c.requires.q_in_bounds.1 in
     found_all _ ss a.ranked.now _ _ _ _ _ _ _ _ ch _ _ _ _ c.loop-plus_first.invariant _ c.index_work-2.ensures (sym c.waits.ensures ∙ c.loop-plus_first-test.false)

@@ -6,22 +6,20 @@ use Rattle.map_every_start.proofs.every_start.visit_both.Goals as goal
 
 pub visit-forward-requires : goal.visit-forward-requires
 visit-forward-requires c =
-    let s = c in let a = s.args in let ss = ranked_sequences a.bases.now a.ends.now a.ranked.now in record { searchable = s.requires.searchable; fits_at = (fit_other a.bases.now a.ends.now a.ranked.now _ _ _ _ (omega arith) s.requires.fits_at.0, both_first ss a.ranked.now a.read.now _ _ _ _ s.requires.fits_at.1) }
+    let a = c.args in let ss = ranked_sequences a.bases.now a.ends.now a.ranked.now in record { searchable = c.requires.searchable; fits_at = (fit_other a.bases.now a.ends.now a.ranked.now _ _ _ _ (omega arith) c.requires.fits_at.0, both_first ss a.ranked.now a.read.now _ _ _ _ c.requires.fits_at.1) }
 
 pub returns-then-bound-forward : goal.returns-then-bound-forward
 returns-then-bound-forward c =
-    let s = c in let a = s.args in let ss = ranked_sequences a.bases.now a.ends.now a.ranked.now in
-    both_stop ss a.ranked.now a.read.now _ _ _ _ s.requires.fits_at.1 _ _ _ _ c.visit-forward.ensures (omega (arith, c.if-bound-forward.true)) _
+    let a = c.args in let ss = ranked_sequences a.bases.now a.ends.now a.ranked.now in
+    both_stop ss a.ranked.now a.read.now _ _ _ _ c.requires.fits_at.1 _ _ _ _ c.visit-forward.ensures (omega (arith, c.if-bound-forward.true)) _
 
 pub visit-requires : goal.visit-requires
 visit-requires c =
-    let s = c in
-    let a = s.args in
-    let ss = ranked_sequences a.bases.now a.ends.now a.ranked.now in record { searchable = s.requires.searchable; fits_at = (fit_other a.bases.now a.ends.now a.ranked.now _ _ _ _ (omega arith) s.requires.fits_at.0, both_second ss a.ranked.now a.read.now _ _ _ _ s.requires.fits_at.1 _ _ _ _ c.visit-forward.ensures (omega (arith, c.if-bound-forward.false))) }
+    let a = c.args in
+    let ss = ranked_sequences a.bases.now a.ends.now a.ranked.now in record { searchable = c.requires.searchable; fits_at = (fit_other a.bases.now a.ends.now a.ranked.now _ _ _ _ (omega arith) c.requires.fits_at.0, both_second ss a.ranked.now a.read.now _ _ _ _ c.requires.fits_at.1 _ _ _ _ c.visit-forward.ensures (omega (arith, c.if-bound-forward.false))) }
 
 pub returns : goal.returns
 returns c =
-    let s = c in
-    let a = s.args in
+    let a = c.args in
     let ss = ranked_sequences a.bases.now a.ends.now a.ranked.now in
-    both_all ss a.ranked.now a.read.now _ _ _ _ s.requires.fits_at.1 _ _ _ _ c.visit-forward.ensures (omega (arith, c.if-bound-forward.false)) _ _ _ _ c.visit.ensures
+    both_all ss a.ranked.now a.read.now _ _ _ _ c.requires.fits_at.1 _ _ _ _ c.visit-forward.ensures (omega (arith, c.if-bound-forward.false)) _ _ _ _ c.visit.ensures

@@ -9,54 +9,53 @@ use Rattle.map_every_start.proofs.visit.visit.Goals as goal
 
 pub ranked_sequence-sequence-requires : goal.ranked_sequence-sequence-requires
 ranked_sequence-sequence-requires c =
-    let s = c in let a = s.args in let p = place a.rank a.start a.strand in
-    (s.requires.searchable.lent, fit_ranked a.bases.now a.ends.now a.ranked.now a.read.now s.requires.searchable p s.requires.fits_at.0)
+    let a = c.args in let p = place a.rank a.start a.strand in
+    (c.requires.searchable.lent, fit_ranked a.bases.now a.ends.now a.ranked.now a.read.now c.requires.searchable p c.requires.fits_at.0)
 
 pub stands_at-requires : goal.stands_at-requires
 stands_at-requires c =
-    let s = c in let a = s.args in let p = place a.rank a.start a.strand in
+    let a = c.args in let p = place a.rank a.start a.strand in
     let e = c.ranked_sequence-sequence.ensures in
     record {
-      fits = fit_inside a.bases.now a.ends.now a.ranked.now a.read.now s.requires.searchable p s.requires.fits_at.0 _ e;
-      capitals = fit_capitals a.bases.now a.ends.now a.ranked.now a.read.now s.requires.searchable p s.requires.fits_at.0 _ e;
-      letters = s.requires.searchable.letters;
+      fits = fit_inside a.bases.now a.ends.now a.ranked.now a.read.now c.requires.searchable p c.requires.fits_at.0 _ e;
+      capitals = fit_capitals a.bases.now a.ends.now a.ranked.now a.read.now c.requires.searchable p c.requires.fits_at.0 _ e;
+      letters = c.requires.searchable.letters;
     }
 
 pub returns-then-not-stands_at : goal.returns-then-not-stands_at
 returns-then-not-stands_at c =
-    let s = c in let a = s.args in let p = place a.rank a.start a.strand in
+    let a = c.args in let p = place a.rank a.start a.strand in
     let ss = ranked_sequences a.bases.now a.ends.now a.ranked.now in
-    place_differs ss _ _ _ p _ _ _ (fit_matches a.bases.now a.ends.now a.ranked.now a.read.now s.requires.searchable p s.requires.fits_at.0 _ c.ranked_sequence-sequence.ensures _ c.stands_at.ensures ∙ c.if-not-stands_at.true)
+    place_differs ss _ _ _ p _ _ _ (fit_matches a.bases.now a.ends.now a.ranked.now a.read.now c.requires.searchable p c.requires.fits_at.0 _ c.ranked_sequence-sequence.ensures _ c.stands_at.ensures ∙ c.if-not-stands_at.true)
 
 pub returns-then-bound-seen : goal.returns-then-bound-seen
 returns-then-bound-seen c =
-    let s = c in let a = s.args in let p = place a.rank a.start a.strand in
+    let a = c.args in let p = place a.rank a.start a.strand in
     let ss = ranked_sequences a.bases.now a.ends.now a.ranked.now in
-    place_past ss _ _ _ p _ _ _ (fit_matches a.bases.now a.ends.now a.ranked.now a.read.now s.requires.searchable p s.requires.fits_at.0 _ c.ranked_sequence-sequence.ensures _ c.stands_at.ensures ∙ c.if-not-stands_at.false) (omega (arith, c.if-bound-seen.true, s.requires.fits_at.1.within))
+    place_past ss _ _ _ p _ _ _ (fit_matches a.bases.now a.ends.now a.ranked.now a.read.now c.requires.searchable p c.requires.fits_at.0 _ c.ranked_sequence-sequence.ensures _ c.stands_at.ensures ∙ c.if-not-stands_at.false) (omega (arith, c.if-bound-seen.true, c.requires.fits_at.1.within))
 
 pub offset_bounds-ranked-rank : goal.offset_bounds-ranked-rank
 offset_bounds-ranked-rank c =
-    let s = c in let a = s.args in let p = place a.rank a.start a.strand in
-    omega (arith, fit_ranked a.bases.now a.ends.now a.ranked.now a.read.now s.requires.searchable p s.requires.fits_at.0, s.requires.searchable.lent.few)
+    let a = c.args in let p = place a.rank a.start a.strand in
+    omega (arith, fit_ranked a.bases.now a.ends.now a.ranked.now a.read.now c.requires.searchable p c.requires.fits_at.0, c.requires.searchable.lent.few)
 
 pub bounds-ranked-rank : goal.bounds-ranked-rank
 bounds-ranked-rank c =
-    let s = c in let a = s.args in let p = place a.rank a.start a.strand in
-    fit_ranked a.bases.now a.ends.now a.ranked.now a.read.now s.requires.searchable p s.requires.fits_at.0
+    let a = c.args in let p = place a.rank a.start a.strand in
+    fit_ranked a.bases.now a.ends.now a.ranked.now a.read.now c.requires.searchable p c.requires.fits_at.0
 
 pub end_of-end-requires : goal.end_of-end-requires
 end_of-end-requires c =
-    let s = c in let a = s.args in let p = place a.rank a.start a.strand in
-    omega (arith, fit_end a.bases.now a.ends.now a.ranked.now a.read.now s.requires.searchable p s.requires.fits_at.0)
+    let a = c.args in let p = place a.rank a.start a.strand in
+    omega (arith, fit_end a.bases.now a.ends.now a.ranked.now a.read.now c.requires.searchable p c.requires.fits_at.0)
 
 pub write_entry-requires : goal.write_entry-requires
 write_entry-requires c = omega (arith, c.requires.fits_at.1.room, c.if-bound-seen.false)
 
 pub returns : goal.returns
 returns c =
-    let s = c in
-    let a = s.args in
+    let a = c.args in
     let p = place a.rank a.start a.strand in
     let ss = ranked_sequences a.bases.now a.ends.now a.ranked.now in
-    let k = place-entered ss a.ranked.now a.read.now a.bound p a.tally.comparisons a.tally.seen a.entries.now (fit_matches a.bases.now a.ends.now a.ranked.now a.read.now s.requires.searchable p s.requires.fits_at.0 _ c.ranked_sequence-sequence.ensures _ c.stands_at.ensures ∙ c.if-not-stands_at.false) (omega (arith, c.if-bound-seen.false)) in
+    let k = place-entered ss a.ranked.now a.read.now a.bound p a.tally.comparisons a.tally.seen a.entries.now (fit_matches a.bases.now a.ends.now a.ranked.now a.read.now c.requires.searchable p c.requires.fits_at.0 _ c.ranked_sequence-sequence.ensures _ c.stands_at.ensures ∙ c.if-not-stands_at.false) (omega (arith, c.if-bound-seen.false)) in
     rw (c.write_entry.ensures, c.end_of-end.ensures) k

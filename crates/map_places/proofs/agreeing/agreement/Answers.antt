@@ -20,7 +20,7 @@ pub overflow_add-from : goal.overflow_add-from
 overflow_add-from c = omega (arith, c.loop-k-test.true, c.requires.in_read)
 
 pub oriented_agrees-requires : goal.oriented_agrees-requires
-oriented_agrees-requires c = let s = c in letters_there s.args.sequence.now s.args.at s.args.read.now s.args.from s.args.most s.requires c.loop-k.k c.loop-k-test.true
+oriented_agrees-requires c = letters_there c.args.sequence.now c.args.at c.args.read.now c.args.from c.args.most c.requires c.loop-k.k c.loop-k-test.true
 
 pub returns-then-not-oriented_agrees : goal.returns-then-not-oriented_agrees
 returns-then-not-oriented_agrees c = c.loop-k.invariant

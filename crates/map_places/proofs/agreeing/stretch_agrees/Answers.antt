@@ -20,7 +20,7 @@ pub overflow_add-from : goal.overflow_add-from
 overflow_add-from c = omega (arith, c.loop-k-test.true, c.requires.in_read)
 
 pub oriented_agrees-agree-requires : goal.oriented_agrees-agree-requires
-oriented_agrees-agree-requires c = let s = c in letters_there s.args.sequence.now s.args.at s.args.read.now s.args.from stretch s.requires c.loop-k.k c.loop-k-test.true
+oriented_agrees-agree-requires c = letters_there c.args.sequence.now c.args.at c.args.read.now c.args.from stretch c.requires c.loop-k.k c.loop-k-test.true
 
 pub overflow_add-k : goal.overflow_add-k
 overflow_add-k c = omega (arith, c.loop-k-test.true)

@@ -18,7 +18,7 @@ pub overflow_add-from : goal.overflow_add-from
 overflow_add-from c = omega (arith, c.loop-k-test.true, c.requires.in_read)
 
 pub stretch_agrees-requires : goal.stretch_agrees-requires
-stretch_agrees-requires c = let s = c in reach_part s.args.sequence.now s.args.at s.args.read.now s.args.from s.args.most s.requires c.loop-k.k stretch (omega (arith, c.loop-k-test.true, c.loop-k.invariant.few))
+stretch_agrees-requires c = reach_part c.args.sequence.now c.args.at c.args.read.now c.args.from c.args.most c.requires c.loop-k.k stretch (omega (arith, c.loop-k-test.true, c.loop-k.invariant.few))
 
 pub returns-then-not-stretch_agrees : goal.returns-then-not-stretch_agrees
 returns-then-not-stretch_agrees c = c.loop-k.invariant

@@ -18,16 +18,14 @@ returns-then-read-i c = λ e. clash e refl
 
 pub oriented_agrees-requires : goal.oriented_agrees-requires
 oriented_agrees-requires c =
-    let s = c in
     record {
       inside = omega (arith, c.if-read-i.false);
-      letter_right = letter_capital _ (every_at is_capital 0 s.args.sequence.now s.requires.capitals _ (omega (arith, s.requires.fits, c.if-read-i.false, c.if-place-start.false)));
-      letters_right = s.requires.letters;
+      letter_right = letter_capital _ (every_at is_capital 0 c.args.sequence.now c.requires.capitals _ (omega (arith, c.requires.fits, c.if-read-i.false, c.if-place-start.false)));
+      letters_right = c.requires.letters;
     }
 
 pub returns : goal.returns
 returns c =
-    let s = c in
-    let a = s.args in
+    let a = c.args in
     let there : a.start + (a.place - a.start) ≡ a.place = omega (arith, c.if-place-start.false) in
-    λ e. compared_differs a.sequence.now a.start a.read.now a.strand s.requires (a.place - a.start) (omega (arith, c.if-read-i.false)) (rw there (sym c.oriented_agrees.ensures ∙ not-true _ e))
+    λ e. compared_differs a.sequence.now a.start a.read.now a.strand c.requires (a.place - a.start) (omega (arith, c.if-read-i.false)) (rw there (sym c.oriented_agrees.ensures ∙ not-true _ e))

@@ -4,11 +4,10 @@ use Rattle.map_places.proofs.differing.place_of_doubt.Goals as goal
 
 pub agreement-requires : goal.agreement-requires
 agreement-requires c =
-    let s = c in
     record {
-      sequence = s.requires.capitals;
-      read_right = s.requires.letters;
-      in_sequence = omega (arith, s.requires.fits, c.least-most.ensures);
+      sequence = c.requires.capitals;
+      read_right = c.requires.letters;
+      in_sequence = omega (arith, c.requires.fits, c.least-most.ensures);
       in_read = omega (arith, c.least-most.ensures);
     }
 

@@ -4,10 +4,10 @@ use Rattle.map_rarest_seed.proofs.Behind.{looking_first, shown_none, posting-len
 use Rattle.map_rarest_seed.proofs.showing.behind_all.Goals as goal
 
 pub loop-i-init : goal.loop-i-init
-loop-i-init c = let s = c in looking_first s.args.q s.args.bases.now s.args.ends.now s.args.ranked.now s.args.ranks.now s.args.positions.now s.args.read.now s.args.o s.args.start s.args.end s.args.most s.requires (oriented s.args.strand s.args.read.now)
+loop-i-init c = looking_first c.args.q c.args.bases.now c.args.ends.now c.args.ranked.now c.args.ranks.now c.args.positions.now c.args.read.now c.args.o c.args.start c.args.end c.args.most c.requires (oriented c.args.strand c.args.read.now)
 
 pub returns-then-left-eq0 : goal.returns-then-left-eq0
-returns-then-left-eq0 c = let s = c in shown_none s.args.q s.args.bases.now s.args.ends.now s.args.ranked.now s.args.ranks.now s.args.positions.now s.args.read.now s.args.o s.args.start s.args.end s.args.most s.requires (oriented s.args.strand s.args.read.now)
+returns-then-left-eq0 c = shown_none c.args.q c.args.bases.now c.args.ends.now c.args.ranked.now c.args.ranks.now c.args.positions.now c.args.read.now c.args.o c.args.start c.args.end c.args.most c.requires (oriented c.args.strand c.args.read.now)
 
 pub posting_rank-rank-requires : goal.posting_rank-rank-requires
 posting_rank-rank-requires c = omega (arith, c.loop-i-test.true, c.requires.in_ranks)
@@ -17,9 +17,8 @@ posting_position-position-requires c = omega (arith, c.loop-i-test.true, c.requi
 
 pub behind_posting-left-requires : goal.behind_posting-left-requires
 behind_posting-left-requires c =
-    let s = c in
     let l = c.loop-i in
-    rw (c.posting_rank-rank.ensures, c.posting_position-position.ensures) (posting-lent s.args.q s.args.bases.now s.args.ends.now s.args.ranked.now s.args.ranks.now s.args.positions.now s.args.read.now s.args.o s.args.start s.args.end s.args.most s.requires (oriented s.args.strand s.args.read.now) l.left l.i l.invariant c.loop-i-test.true)
+    rw (c.posting_rank-rank.ensures, c.posting_position-position.ensures) (posting-lent c.args.q c.args.bases.now c.args.ends.now c.args.ranked.now c.args.ranks.now c.args.positions.now c.args.read.now c.args.o c.args.start c.args.end c.args.most c.requires (oriented c.args.strand c.args.read.now) l.left l.i l.invariant c.loop-i-test.true)
 
 pub overflow_add-i : goal.overflow_add-i
 overflow_add-i c = omega (arith, c.loop-i-test.true)
@@ -29,9 +28,8 @@ loop-i-smaller c = omega (arith, c.loop-i-test.true)
 
 pub loop-i-preserved : goal.loop-i-preserved
 loop-i-preserved c =
-    let s = c in
     let l = c.loop-i in
-    looking_more s.args.q s.args.bases.now s.args.ends.now s.args.ranked.now s.args.ranks.now s.args.positions.now s.args.read.now s.args.o s.args.start s.args.end s.args.most s.requires (oriented s.args.strand s.args.read.now) l.left l.i l.invariant c.loop-i-test.true _ _ c.posting_rank-rank.ensures c.posting_position-position.ensures _ c.behind_posting-left.ensures
+    looking_more c.args.q c.args.bases.now c.args.ends.now c.args.ranked.now c.args.ranks.now c.args.positions.now c.args.read.now c.args.o c.args.start c.args.end c.args.most c.requires (oriented c.args.strand c.args.read.now) l.left l.i l.invariant c.loop-i-test.true _ _ c.posting_rank-rank.ensures c.posting_position-position.ensures _ c.behind_posting-left.ensures
 
 pub returns : goal.returns
-returns c = let s = c in shown_all s.args.q s.args.bases.now s.args.ends.now s.args.ranked.now s.args.ranks.now s.args.positions.now s.args.read.now s.args.o s.args.start s.args.end s.args.most s.requires (oriented s.args.strand s.args.read.now) c.loop-i.left c.loop-i.i c.loop-i.invariant c.loop-i-test.false
+returns c = shown_all c.args.q c.args.bases.now c.args.ends.now c.args.ranked.now c.args.ranks.now c.args.positions.now c.args.read.now c.args.o c.args.start c.args.end c.args.most c.requires (oriented c.args.strand c.args.read.now) c.loop-i.left c.loop-i.i c.loop-i.invariant c.loop-i-test.false

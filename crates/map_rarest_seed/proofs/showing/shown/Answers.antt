@@ -5,13 +5,13 @@ use Rattle.map_rarest_seed.proofs.Behind.{shown_none, shown_fewer, fewer_shown}
 use Rattle.map_rarest_seed.proofs.showing.shown.Goals as goal
 
 pub returns-then-not-look : goal.returns-then-not-look
-returns-then-not-look c = let s = c in shown_none s.args.q s.args.bases.now s.args.ends.now s.args.ranked.now s.args.ranks.now s.args.positions.now s.args.read.now s.args.o s.args.start s.args.end s.args.most s.requires (oriented s.args.strand s.args.read.now)
+returns-then-not-look c = shown_none c.args.q c.args.bases.now c.args.ends.now c.args.ranked.now c.args.ranks.now c.args.positions.now c.args.read.now c.args.o c.args.start c.args.end c.args.most c.requires (oriented c.args.strand c.args.read.now)
 
 pub returns-then-end-start-gt-MOST_POSTINGS : goal.returns-then-end-start-gt-MOST_POSTINGS
-returns-then-end-start-gt-MOST_POSTINGS c = let s = c in shown_none s.args.q s.args.bases.now s.args.ends.now s.args.ranked.now s.args.ranks.now s.args.positions.now s.args.read.now s.args.o s.args.start s.args.end s.args.most s.requires (oriented s.args.strand s.args.read.now)
+returns-then-end-start-gt-MOST_POSTINGS c = shown_none c.args.q c.args.bases.now c.args.ends.now c.args.ranked.now c.args.ranks.now c.args.positions.now c.args.read.now c.args.o c.args.start c.args.end c.args.most c.requires (oriented c.args.strand c.args.read.now)
 
 pub behind_all-requires : goal.behind_all-requires
-behind_all-requires c = let s = c in shown_fewer s.args.q s.args.bases.now s.args.ends.now s.args.ranked.now s.args.ranks.now s.args.positions.now s.args.read.now s.args.o s.args.start s.args.end s.args.most s.requires (oriented s.args.strand s.args.read.now) _ (omega (arith, c.least-bound.ensures))
+behind_all-requires c = shown_fewer c.args.q c.args.bases.now c.args.ends.now c.args.ranked.now c.args.ranks.now c.args.positions.now c.args.read.now c.args.o c.args.start c.args.end c.args.most c.requires (oriented c.args.strand c.args.read.now) _ (omega (arith, c.least-bound.ensures))
 
 pub returns : goal.returns
-returns c = let s = c in fewer_shown s.args.q s.args.bases.now s.args.ends.now s.args.ranked.now s.args.ranks.now s.args.positions.now s.args.read.now s.args.o s.args.start s.args.end s.args.most s.requires (oriented s.args.strand s.args.read.now) _ _ (omega (arith, c.least-bound.ensures)) c.behind_all.ensures
+returns c = fewer_shown c.args.q c.args.bases.now c.args.ends.now c.args.ranked.now c.args.ranks.now c.args.positions.now c.args.read.now c.args.o c.args.start c.args.end c.args.most c.requires (oriented c.args.strand c.args.read.now) _ _ (omega (arith, c.least-bound.ensures)) c.behind_all.ensures

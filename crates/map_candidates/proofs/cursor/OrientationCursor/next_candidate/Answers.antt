@@ -6,10 +6,6 @@ use Rattle.index_model.specs.Index.{ranked_sequences}
 use Rattle.map_candidates.specs.Search.{lies}
 use Rattle.map_candidates.proofs.cursor.OrientationCursor.next_candidate.Goals as goal
 
--- `map_candidates::cursor::OrientationCursor::next_candidate` meets its contract. The invariant: `Passing`, postings passed over.
-  statement,
-}
-
 pub loop-i-init : goal.loop-i-init
 loop-i-init c =
     let a = c.args in
