@@ -1,5 +1,5 @@
 -- Places of a read in sequences by rank, and where it matches (REFERENCE.md, "Places").
-use Rattle.std.specs.Prelude.{◌≡◌, Bool, true, false, List, [], ◌∷◌, ◌++◌, ℕ, zero, suc, ◌+◌, ◌-◌, ◌<◌, length, get_or, take}
+use Rattle.std.specs.Prelude.{◌≡◌, Bool, true, false, List, [], ◌∷◌, ◌++◌, ℕ, zero, suc, ◌-◌, ◌<◌, length, get_or, take}
 use Rattle.lists.specs.Filter.{filter}
 use Rattle.lists.specs.Same.{same}
 use Rattle.lists.specs.Triple.{Triple, lexicographic}
