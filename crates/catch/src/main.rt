@@ -2,8 +2,9 @@
 #![tactic(auto)]
 
 use catch_stream::run_stream;
-use libc::{STDIN_FILENO, STDOUT_FILENO};
 
-fn main() {
-    run_stream(STDIN_FILENO, STDOUT_FILENO, 32768);
+fn main(rt: HostRuntime) {
+    let mut input = rt.stdin();
+    let mut output = rt.stdout();
+    run_stream(&mut input, &mut output, 32768);
 }

@@ -1,4 +1,4 @@
-// A job read from one file descriptor, and its lines written to another.
+// A job read from a reader, and its lines written to a writer.
 #![tactic(auto)]
 
 ghost use Rattle.std.specs.Prelude.{◌≡◌, length};
@@ -6,6 +6,7 @@ ghost use Rattle.std.specs.Prelude.{◌≡◌, length};
 use catch_state::new_job;
 use catch_step::advance;
 use catch_turns::follow;
+use std::io::{Read, Write};
 
 // Zeros for input.
 fn input_room() -> [u8; 32768]
@@ -50,7 +51,7 @@ fn column() -> [u64; 1024]
 }
 
 // Runs a job. Its input is read in pieces of at most `piece` bytes; what is written is out before more input is waited for.
-pub fn run_stream(input: i32, output: i32, piece: usize) {
+pub fn run_stream<R: Read, W: Write>(input: &mut R, output: &mut W, piece: usize) {
     let mut buffer = input_room();
     let mut out = output_room();
     let mut identifiers = name_room();

@@ -6,6 +6,7 @@ ghost use Rattle.catch_turns.specs.Turns.{AtHand, Kept, Refilled, Steps, Turned}
 
 use buffers::least;
 use catch_progress::Progress;
+use std::io::{Read, Write};
 
 // How many bytes were asked for, how many are at hand, and whether the input has ended or could not be read.
 #[derive(Clone, Copy)]
@@ -49,25 +50,41 @@ fn some_piece(piece: usize) -> usize
 }
 
 // Moves the bytes at hand to the front, and reads up to `piece` bytes behind them, or one where it is 0.
-fn refill(buffer: &mut [u8], from: usize, end: usize, input: i32, piece: usize) -> Filled
+fn refill<R: Read>(
+    buffer: &mut [u8],
+    from: usize,
+    end: usize,
+    input: &mut R,
+    piece: usize,
+) -> Filled
     requires { AtHand buffer.old from end × (end - from < length buffer.old) }
     ensures { Refilled buffer.old from end buffer.new result }
 {
     let kept = shift(buffer, from, end);
     let upto = kept + least(buffer.len() - kept, some_piece(piece));
-    let got = libc::read(input, &mut buffer[kept..upto]);
-    let n = io::count(got, &buffer[kept..upto]);
+    let (n, failed) = match input.read(&mut buffer[kept..upto]) {
+        Ok(n) => (n, false),
+        Err(_) => (0, true),
+    };
     Filled {
         asked: upto - kept,
         end: kept + n,
         ended: n == 0,
-        failed: got < 0,
+        failed,
+    }
+}
+
+// Writes bytes, so that none are held back, and tells whether all were taken.
+fn written<W: Write>(output: &mut W, bytes: &[u8]) -> bool {
+    match output.write_all(bytes) {
+        Ok(()) => output.flush().is_ok(),
+        Err(_) => false,
     }
 }
 
 // What follows a step: on behind the bytes that it went, or the end, or more input. Output is written where the next step
 // might lack room, and before more input is waited for.
-pub fn follow(
+pub fn follow<R: Read, W: Write>(
     buffer: &mut [u8],
     out: &[u8],
     at: usize,
@@ -75,8 +92,8 @@ pub fn follow(
     from: usize,
     end: usize,
     ended: bool,
-    input: i32,
-    output: i32,
+    input: &mut R,
+    output: &mut W,
     piece: usize,
 ) -> Turn
     requires { Steps buffer.old out.now progress from end at }
@@ -84,7 +101,7 @@ pub fn follow(
 {
     match progress {
         Progress::Ended => {
-            io::write_all(output, &out[..at]);
+            written(output, &out[..at]);
             Turn {
                 done: true,
                 from,
@@ -107,7 +124,7 @@ pub fn follow(
                 };
             }
             Turn {
-                done: !io::write_all(output, &out[..at]),
+                done: !written(output, &out[..at]),
                 from: next,
                 end,
                 ended,
@@ -116,7 +133,7 @@ pub fn follow(
             }
         }
         Progress::More => {
-            if !io::write_all(output, &out[..at]) {
+            if !written(output, &out[..at]) {
                 return Turn {
                     done: true,
                     from,

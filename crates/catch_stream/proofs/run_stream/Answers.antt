@@ -5,7 +5,7 @@ use Rattle.catch_stream.proofs.Running.{zeros, new-kept, has_room, steps}
 use Rattle.catch_stream.proofs.run_stream.Goals as goal
 
 pub loop-turns-init : goal.loop-turns-init
-loop-turns-init c =
+loop-turns-init g c =
     let is = c.name_room-identifiers in
     let bs = c.base_room-bases in
     let ranked = c.rank_room-ranked in
@@ -23,67 +23,67 @@ loop-turns-init c =
     }
 
 pub slice_bounds-advance-end : goal.slice_bounds-advance-end
-slice_bounds-advance-end c = sym c.loop-turns.invariant.output
+slice_bounds-advance-end g c = sym c.loop-turns.invariant.output
 
 pub slice_bounds-advance-end-in-loop-turns : goal.slice_bounds-advance-end-in-loop-turns
-slice_bounds-advance-end-in-loop-turns c = sym c.loop-turns.invariant.kept.supply.identifiers
+slice_bounds-advance-end-in-loop-turns g c = sym c.loop-turns.invariant.kept.supply.identifiers
 
 pub slice_bounds-advance-end-in-loop-turns-2 : goal.slice_bounds-advance-end-in-loop-turns-2
-slice_bounds-advance-end-in-loop-turns-2 c = sym c.loop-turns.invariant.kept.supply.identifier_ends
+slice_bounds-advance-end-in-loop-turns-2 g c = sym c.loop-turns.invariant.kept.supply.identifier_ends
 
 pub slice_bounds-advance-end-in-loop-turns-3 : goal.slice_bounds-advance-end-in-loop-turns-3
-slice_bounds-advance-end-in-loop-turns-3 c = sym c.loop-turns.invariant.kept.supply.sequences
+slice_bounds-advance-end-in-loop-turns-3 g c = sym c.loop-turns.invariant.kept.supply.sequences
 
 pub slice_bounds-advance-end-in-loop-turns-4 : goal.slice_bounds-advance-end-in-loop-turns-4
-slice_bounds-advance-end-in-loop-turns-4 c = sym c.loop-turns.invariant.kept.supply.base_ends
+slice_bounds-advance-end-in-loop-turns-4 g c = sym c.loop-turns.invariant.kept.supply.base_ends
 
 pub slice_bounds-advance-end-in-loop-turns-5 : goal.slice_bounds-advance-end-in-loop-turns-5
-slice_bounds-advance-end-in-loop-turns-5 c = sym c.loop-turns.invariant.kept.supply.marks
+slice_bounds-advance-end-in-loop-turns-5 g c = sym c.loop-turns.invariant.kept.supply.marks
 
 pub slice_bounds-advance-end-in-loop-turns-6 : goal.slice_bounds-advance-end-in-loop-turns-6
-slice_bounds-advance-end-in-loop-turns-6 c = sym c.loop-turns.invariant.kept.ranked
+slice_bounds-advance-end-in-loop-turns-6 g c = sym c.loop-turns.invariant.kept.ranked
 
 pub slice_bounds-advance-end-in-loop-turns-7 : goal.slice_bounds-advance-end-in-loop-turns-7
-slice_bounds-advance-end-in-loop-turns-7 c = sym c.loop-turns.invariant.kept.keys
+slice_bounds-advance-end-in-loop-turns-7 g c = sym c.loop-turns.invariant.kept.keys
 
 pub slice_bounds-advance-end-in-loop-turns-8 : goal.slice_bounds-advance-end-in-loop-turns-8
-slice_bounds-advance-end-in-loop-turns-8 c = sym c.loop-turns.invariant.kept.ranks
+slice_bounds-advance-end-in-loop-turns-8 g c = sym c.loop-turns.invariant.kept.ranks
 
 pub slice_bounds-advance-end-in-loop-turns-9 : goal.slice_bounds-advance-end-in-loop-turns-9
-slice_bounds-advance-end-in-loop-turns-9 c = sym c.loop-turns.invariant.kept.positions
+slice_bounds-advance-end-in-loop-turns-9 g c = sym c.loop-turns.invariant.kept.positions
 
 pub slice_bounds-advance-end-in-loop-turns-10 : goal.slice_bounds-advance-end-in-loop-turns-10
-slice_bounds-advance-end-in-loop-turns-10 c = sym c.loop-turns.invariant.kept.placements
+slice_bounds-advance-end-in-loop-turns-10 g c = sym c.loop-turns.invariant.kept.placements
 
 pub slice_bounds-advance-end-in-loop-turns-11 : goal.slice_bounds-advance-end-in-loop-turns-11
-slice_bounds-advance-end-in-loop-turns-11 c = sym c.loop-turns.invariant.kept.singles
+slice_bounds-advance-end-in-loop-turns-11 g c = sym c.loop-turns.invariant.kept.singles
 
 pub slice_bounds-advance-end-in-loop-turns-12 : goal.slice_bounds-advance-end-in-loop-turns-12
-slice_bounds-advance-end-in-loop-turns-12 c = sym c.loop-turns.invariant.kept.multi
+slice_bounds-advance-end-in-loop-turns-12 g c = sym c.loop-turns.invariant.kept.multi
 
 pub slice_bounds-advance-end-in-loop-turns-13 : goal.slice_bounds-advance-end-in-loop-turns-13
-slice_bounds-advance-end-in-loop-turns-13 c = sym c.loop-turns.invariant.places
+slice_bounds-advance-end-in-loop-turns-13 g c = sym c.loop-turns.invariant.places
 
 pub advance-r-requires : goal.advance-r-requires
-advance-r-requires c = (c.loop-turns.invariant.kept, c.loop-turns.invariant.places, has_room _ _ _ _ _ _ _ _ c.loop-turns.invariant)
+advance-r-requires g c = (c.loop-turns.invariant.kept, c.loop-turns.invariant.places, has_room _ _ _ _ _ _ _ _ c.loop-turns.invariant)
 
 pub slice_bounds-follow-end : goal.slice_bounds-follow-end
-slice_bounds-follow-end c = sym c.loop-turns.invariant.input
+slice_bounds-follow-end g c = sym c.loop-turns.invariant.input
 
 pub slice_bounds-follow-end-in-loop-turns : goal.slice_bounds-follow-end-in-loop-turns
-slice_bounds-follow-end-in-loop-turns c = sym c.out-in-loop-turns-1.given
+slice_bounds-follow-end-in-loop-turns g c = sym c.out-in-loop-turns-1.given
 
 pub follow-turn-requires : goal.follow-turn-requires
-follow-turn-requires c = steps _ _ _ _ _ _ _ _ c.loop-turns.invariant _ _ _ _ c.out-in-loop-turns-1.given c.advance-r.ensures
+follow-turn-requires g c = steps _ _ _ _ _ _ _ _ c.loop-turns.invariant _ _ _ _ c.out-in-loop-turns-1.given c.advance-r.ensures
 
 pub overflow_sub-turns : goal.overflow_sub-turns
-overflow_sub-turns c = omega (arith, c.loop-turns-test.true)
+overflow_sub-turns g c = omega (arith, c.loop-turns-test.true)
 
 pub loop-turns-smaller : goal.loop-turns-smaller
-loop-turns-smaller c = omega (arith, c.loop-turns-test.true)
+loop-turns-smaller g c = omega (arith, c.loop-turns-test.true)
 
 pub loop-turns-preserved : goal.loop-turns-preserved
-loop-turns-preserved c = let f = c.follow-turn.ensures in
+loop-turns-preserved g c = let f = c.follow-turn.ensures in
     record {
       kept = c.advance-r.ensures.kept;
       places = c.entries-in-loop-turns-1.given;

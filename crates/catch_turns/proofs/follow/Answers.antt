@@ -7,11 +7,11 @@ use Rattle.catch_turns.specs.Turns.{kept_back, handed_on}
 use Rattle.catch_turns.proofs.Turning.{went_within, turned_on, turned_last, turned_off, turned_more}
 use Rattle.catch_turns.proofs.follow.Goals as goal
 
-pub slice_bounds-write_all-end : goal.slice_bounds-write_all-end
-slice_bounds-write_all-end c = sym (length-take-le _ _ c.requires.written)
+pub slice_bounds-written-end : goal.slice_bounds-written-end
+slice_bounds-written-end g c = sym (length-take-le _ _ c.requires.written)
 
 pub overflow_add-next : goal.overflow_add-next
-overflow_add-next c =
+overflow_add-next g c =
     let a = c.args in
     let n = c.in-Went.n in
     let h : a.from + n ≤ a.end = went_within a.progress n a.from a.end c.in-Went.is c.requires.went in
@@ -22,11 +22,11 @@ returns-then-at-le32768 c =
     let a = c.args in
     turned_on a.buffer.now a.progress a.from a.end a.at a.ended c.requires.hand _ c.in-Went.is c.requires.went _ _ _ (omega arith) (kept_back refl refl refl)
 
-pub slice_bounds-write_all-end-in-Went : goal.slice_bounds-write_all-end-in-Went
-slice_bounds-write_all-end-in-Went c = sym (length-take-le _ _ c.requires.written)
+pub slice_bounds-written-end-in-Went : goal.slice_bounds-written-end-in-Went
+slice_bounds-written-end-in-Went g c = sym (length-take-le _ _ c.requires.written)
 
-pub slice_bounds-write_all-end-in-More : goal.slice_bounds-write_all-end-in-More
-slice_bounds-write_all-end-in-More c = sym (length-take-le _ _ c.requires.written)
+pub slice_bounds-written-end-in-More : goal.slice_bounds-written-end-in-More
+slice_bounds-written-end-in-More g c = sym (length-take-le _ _ c.requires.written)
 
 pub returns-then-not-write_all : goal.returns-then-not-write_all
 returns-then-not-write_all c =
@@ -34,7 +34,7 @@ returns-then-not-write_all c =
     turned_off a.buffer.now a.progress a.from a.end a.at a.ended c.requires.hand c.in-More.is
 
 pub refill-filled-requires : goal.refill-filled-requires
-refill-filled-requires c = (c.requires.hand, c.requires.room c.in-More.is)
+refill-filled-requires g c = (c.requires.hand, c.requires.room c.in-More.is)
 
 pub returns-in-Ended : goal.returns-in-Ended
 returns-in-Ended c =
