@@ -23,6 +23,9 @@ ascending_distinct less o [] a = tt
 ascending_distinct less o (x ∷ xs) a = (λ m. later_differs less o x x xs a m refl, ascending_distinct less o xs a.1)
 
 place_inside : (k : ℕ) (ns ss : List (List ℕ)) (ms : List ℕ) (t : Target) → t ∈ targets_from k ns ss ms → t.place < k + length (targets_from k ns ss ms)
+place_inside k [] ss ms t x' = elim x' [ ]
+place_inside k (n ∷ ns) [] ms t x3 = elim x3 [ ]
+place_inside k (n ∷ ns) (s ∷ ss) [] t x5 = elim x5 [ ]
 place_inside k (n ∷ ns) (s ∷ ss) (m ∷ ms) t (inl e) = rw e (omega arith)
 place_inside k (n ∷ ns) (s ∷ ss) (m ∷ ms) t (inr h) = omega (arith, place_inside (suc k) ns ss ms t h)
 
