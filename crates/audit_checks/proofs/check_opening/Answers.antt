@@ -1,12 +1,12 @@
 -- `audit_checks::check_opening` meets its contract, refusal by refusal.
-use mathlib.Core.Path.{sym, ap, ◌∙◌}
+use mathlib.Core.Path.{◌≡◌, sym, ap, ◌∙◌}
 use mathlib.Core.Bool.{◌&&◌}
-use mathlib.Core.Logic.{⊎_elim}
 use native.Mathlib.Omega.{arith}
 use Rattle.index_plan.proofs.Planning.{within_buffer, prefix_length, lent}
 use Rattle.audit_ledger.specs.Booking.{counters_of}
 use Rattle.audit_checks.proofs.Opening.{settings_refused, counters_refused, catalogue_refused, index_refused, all_right}
 use Rattle.audit_checks.proofs.check_opening.Goals as goal
+use Rattle.audit_checks.proofs.check_opening.Goals.{then-indexed, else-indexed}
 
 pub returns-then-refusal-ne0 : goal.returns-then-refusal-ne0
 returns-then-refusal-ne0 c =
@@ -36,10 +36,18 @@ index_fits-requires c =
 
 pub returns-then-not-index_fits : goal.returns-then-not-index_fits
 returns-then-not-index_fits c =
+    let tested : c.if-indexed.tested ≡ (c.args.indexed && c.args.settings.remap) = elim c.if-indexed.branch [
+      then-indexed h ↦ h.tested-is ∙ ap (λ b. b && c.args.settings.remap) (sym h.if-indexed.true)
+    | else-indexed h ↦ h.tested-is ∙ h.if-indexed.false ∙ ap (λ b. b && c.args.settings.remap) (sym h.if-indexed.false)
+    ] in
     let a = c.args in
-    index_refused _ _ _ a.indexed a.keys.now a.ranks.now a.positions.now _ (counters_of a.placements.now a.singles.now a.multi.now) _ c.settings_refusal-refusal.ensures c.if-refusal-ne0.false _ c.counters_right.ensures c.if-not-counters_right.false-raw c.requires.seed _ _ c.rank_checked-ranking.ensures _ c.in-Ranked.is _ (⊎_elim (λ h. h.1 ∙ ap (λ b. b && a.settings.remap) (sym h.0.taken)) (λ h. h.1 ∙ h.0.left ∙ ap (λ b. b && a.settings.remap) (sym h.0.left)) c.if-indexed.branch) _ c.index_fits.ensures (omega arith) c.if-not-index_fits.true-raw
+    index_refused _ _ _ a.indexed a.keys.now a.ranks.now a.positions.now _ (counters_of a.placements.now a.singles.now a.multi.now) _ c.settings_refusal-refusal.ensures c.if-refusal-ne0.false _ c.counters_right.ensures c.if-not-counters_right.false-raw c.requires.seed _ _ c.rank_checked-ranking.ensures _ c.in-Ranked.is _ tested _ c.index_fits.ensures (omega arith) c.if-not-index_fits.true-raw
 
 pub returns : goal.returns
 returns c =
+    let tested : c.if-indexed.tested ≡ (c.args.indexed && c.args.settings.remap) = elim c.if-indexed.branch [
+      then-indexed h ↦ h.tested-is ∙ ap (λ b. b && c.args.settings.remap) (sym h.if-indexed.true)
+    | else-indexed h ↦ h.tested-is ∙ h.if-indexed.false ∙ ap (λ b. b && c.args.settings.remap) (sym h.if-indexed.false)
+    ] in
     let a = c.args in
-    all_right _ _ _ a.indexed a.keys.now a.ranks.now a.positions.now _ (counters_of a.placements.now a.singles.now a.multi.now) _ c.settings_refusal-refusal.ensures c.if-refusal-ne0.false _ c.counters_right.ensures c.if-not-counters_right.false-raw c.requires.seed _ _ c.rank_checked-ranking.ensures _ c.in-Ranked.is _ (⊎_elim (λ h. h.1 ∙ ap (λ b. b && a.settings.remap) (sym h.0.taken)) (λ h. h.1 ∙ h.0.left ∙ ap (λ b. b && a.settings.remap) (sym h.0.left)) c.if-indexed.branch) _ c.index_fits.ensures c.if-not-index_fits.false-raw
+    all_right _ _ _ a.indexed a.keys.now a.ranks.now a.positions.now _ (counters_of a.placements.now a.singles.now a.multi.now) _ c.settings_refusal-refusal.ensures c.if-refusal-ne0.false _ c.counters_right.ensures c.if-not-counters_right.false-raw c.requires.seed _ _ c.rank_checked-ranking.ensures _ c.in-Ranked.is _ tested _ c.index_fits.ensures c.if-not-index_fits.false-raw

@@ -8,12 +8,12 @@ use Rattle.audit_fragment.proofs.audit_fragment.Goals as goal
 pub slice_bounds-ranked-end : goal.slice_bounds-ranked-end
 slice_bounds-ranked-end c =
     let a = c.args in
-    within a.q a.offset (record { identifiers = a.identifiers.now; identifier_ends = a.identifier_ends.now; bases = a.bases.now; base_ends = a.base_ends.now; marks = a.marks.now }) a.indexed a.keys.now a.ranks.now a.positions.now (held_of a.state a.placements.now a.singles.now a.multi.now) (fragment_of a.ordinal a.count (mate_of a.first-role a.first.now a.first-present a.first_qualities.now) (mate_of a.second-role a.second.now a.second-present a.second_qualities.now)) a.entries.now _ _ c.check_opening-ranking.ensures c.requires.0 _ c.in-Ranked.is
+    within a.q a.offset (record { identifiers = a.identifiers.now; identifier_ends = a.identifier_ends.now; bases = a.bases.now; base_ends = a.base_ends.now; marks = a.marks.now }) a.indexed a.keys.now a.ranks.now a.positions.now (held_of a.state a.placements.now a.singles.now a.multi.now) (fragment_of a.ordinal a.count (mate_of a.first_role a.first.now a.first_present a.first_qualities.now) (mate_of a.second_role a.second.now a.second_present a.second_qualities.now)) a.entries.now _ _ c.check_opening-ranking.ensures c.requires.0 _ c.in-Ranked.is
 
 pub slice_bounds-audit_tested-end : goal.slice_bounds-audit_tested-end
 slice_bounds-audit_tested-end c =
     let a = c.args in
-    prefix a.q a.offset (record { identifiers = a.identifiers.now; identifier_ends = a.identifier_ends.now; bases = a.bases.now; base_ends = a.base_ends.now; marks = a.marks.now }) a.indexed a.keys.now a.ranks.now a.positions.now (held_of a.state a.placements.now a.singles.now a.multi.now) (fragment_of a.ordinal a.count (mate_of a.first-role a.first.now a.first-present a.first_qualities.now) (mate_of a.second-role a.second.now a.second-present a.second_qualities.now)) a.entries.now _ _ c.check_opening-ranking.ensures c.requires.0 _ c.in-Ranked.is
+    prefix a.q a.offset (record { identifiers = a.identifiers.now; identifier_ends = a.identifier_ends.now; bases = a.bases.now; base_ends = a.base_ends.now; marks = a.marks.now }) a.indexed a.keys.now a.ranks.now a.positions.now (held_of a.state a.placements.now a.singles.now a.multi.now) (fragment_of a.ordinal a.count (mate_of a.first_role a.first.now a.first_present a.first_qualities.now) (mate_of a.second_role a.second.now a.second_present a.second_qualities.now)) a.entries.now _ _ c.check_opening-ranking.ensures c.requires.0 _ c.in-Ranked.is
 
 pub audit_tested-requires : goal.audit_tested-requires
 audit_tested-requires c =
@@ -28,4 +28,4 @@ returns-in-Refused c =
 pub returns-in-Ranked : goal.returns-in-Ranked
 returns-in-Ranked c =
     let a = c.args in
-    opening_passes a.q a.offset (record { identifiers = a.identifiers.now; identifier_ends = a.identifier_ends.now; bases = a.bases.now; base_ends = a.base_ends.now; marks = a.marks.now }) a.indexed a.keys.now a.ranks.now a.positions.now (held_of a.state a.placements.now a.singles.now a.multi.now) (fragment_of a.ordinal a.count (mate_of a.first-role a.first.now a.first-present a.first_qualities.now) (mate_of a.second-role a.second.now a.second-present a.second_qualities.now)) a.entries.now _ _ c.check_opening-ranking.ensures c.requires.0 _ c.in-Ranked.is _ _ _ c.audit_tested.ensures
+    opening_passes a.q a.offset (record { identifiers = a.identifiers.now; identifier_ends = a.identifier_ends.now; bases = a.bases.now; base_ends = a.base_ends.now; marks = a.marks.now }) a.indexed a.keys.now a.ranks.now a.positions.now (held_of a.state a.placements.now a.singles.now a.multi.now) (fragment_of a.ordinal a.count (mate_of a.first_role a.first.now a.first_present a.first_qualities.now) (mate_of a.second_role a.second.now a.second_present a.second_qualities.now)) a.entries.now _ _ c.check_opening-ranking.ensures c.requires.0 _ c.in-Ranked.is _ _ _ c.audit_tested.ensures

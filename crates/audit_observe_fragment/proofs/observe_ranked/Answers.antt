@@ -15,14 +15,14 @@ overflow_mul-width c =
 pub post_answer-posted-requires : goal.post_answer-posted-requires
 post_answer-posted-requires c =
     let a = c.args in
-    ranked_postable a.indexed a.q a.bases.now a.ends.now a.ranked.now a.keys.now a.ranks.now a.positions.now a.first.now a.second.now a.searched a.settings _ c.requires a.first-role a.second-role a.entries.now _ _ c.search_reads-answer.ensures _ c.share_of-width.ensures
+    ranked_postable a.indexed a.q a.bases.now a.ends.now a.ranked.now a.keys.now a.ranks.now a.positions.now a.first.now a.second.now a.searched a.settings _ c.requires a.first_role a.second_role a.entries.now _ _ c.search_reads-answer.ensures _ c.share_of-width.ensures
 
 pub returns-then-not-posted : goal.returns-then-not-posted
 returns-then-not-posted c =
     let a = c.args in
-    ranked_full a.indexed a.q a.bases.now a.ends.now a.ranked.now a.keys.now a.ranks.now a.positions.now a.first.now a.second.now a.searched a.settings _ c.requires a.first-role a.second-role a.entries.now _ _ c.search_reads-answer.ensures _ c.share_of-width.ensures a.ledger _ c.post_answer-posted.ensures (not-true _ c.if-not-posted.true) _ c.clear_entries.ensures 17 (omega arith)
+    ranked_full a.indexed a.q a.bases.now a.ends.now a.ranked.now a.keys.now a.ranks.now a.positions.now a.first.now a.second.now a.searched a.settings _ c.requires a.first_role a.second_role a.entries.now _ _ c.search_reads-answer.ensures _ c.share_of-width.ensures a.ledger _ c.post_answer-posted.ensures (not-true _ c.if-not-posted.true) _ c.clear_entries.ensures 17 (omega arith)
 
 pub returns : goal.returns
 returns c =
     let a = c.args in
-    ranked_done a.indexed a.q a.bases.now a.ends.now a.ranked.now a.keys.now a.ranks.now a.positions.now a.first.now a.second.now a.searched a.settings _ c.requires a.first-role a.second-role a.entries.now _ _ c.search_reads-answer.ensures _ c.share_of-width.ensures a.ledger _ c.post_answer-posted.ensures (not-false _ c.if-not-posted.false)
+    ranked_done a.indexed a.q a.bases.now a.ends.now a.ranked.now a.keys.now a.ranks.now a.positions.now a.first.now a.second.now a.searched a.settings _ c.requires a.first_role a.second_role a.entries.now _ _ c.search_reads-answer.ensures _ c.share_of-width.ensures a.ledger _ c.post_answer-posted.ensures (not-false _ c.if-not-posted.false)

@@ -22,12 +22,12 @@ overflow_mul-width c =
 pub book_answer-booked-requires : goal.book_answer-booked-requires
 book_answer-booked-requires c =
     let a = c.args in
-    raisable a.offset (ranked_sequences a.bases.now a.ends.now a.ranked.now) (way_if a.indexed a.q) a.ranked.now (held_of a.state a.placements.now a.singles.now a.multi.now) a.ordinal a.count (mate_of a.first-role a.first.now a.first-present a.first_qualities.now) (mate_of a.second-role a.second.now a.second-present a.second_qualities.now) a.entries.now _ _ c.observe_tested-answer.ensures (opened c.in_default.in_default-own.keys2) c.requires.limit c.requires.counters c.requires.places (sym (length-map a.ranked.now (λ p. get_or (cut a.ends.now a.bases.now) p []))) _ c.share_of-width.ensures
+    raisable a.offset (ranked_sequences a.bases.now a.ends.now a.ranked.now) (way_if a.indexed a.q) a.ranked.now (held_of a.state a.placements.now a.singles.now a.multi.now) a.ordinal a.count (mate_of a.first_role a.first.now a.first_present a.first_qualities.now) (mate_of a.second_role a.second.now a.second_present a.second_qualities.now) a.entries.now _ _ c.observe_tested-answer.ensures (opened c.in_default.in_default-own.keys2) c.requires.limit c.requires.counters c.requires.places (sym (length-map a.ranked.now (λ p. get_or (cut a.ends.now a.bases.now) p []))) _ c.share_of-width.ensures
 
 pub returns-in_default : goal.returns-in_default
 returns-in_default c =
     let a = c.args in
-    audit_booked a.offset (ranked_sequences a.bases.now a.ends.now a.ranked.now) (way_if a.indexed a.q) a.ranked.now (held_of a.state a.placements.now a.singles.now a.multi.now) a.ordinal a.count (mate_of a.first-role a.first.now a.first-present a.first_qualities.now) (mate_of a.second-role a.second.now a.second-present a.second_qualities.now) a.entries.now _ _ c.observe_tested-answer.ensures (opened c.in_default.in_default-own.keys2) c.requires.limit c.requires.counters c.requires.places (sym (length-map a.ranked.now (λ p. get_or (cut a.ends.now a.bases.now) p []))) _ c.share_of-width.ensures _ _ c.book_answer-booked.ensures
+    audit_booked a.offset (ranked_sequences a.bases.now a.ends.now a.ranked.now) (way_if a.indexed a.q) a.ranked.now (held_of a.state a.placements.now a.singles.now a.multi.now) a.ordinal a.count (mate_of a.first_role a.first.now a.first_present a.first_qualities.now) (mate_of a.second_role a.second.now a.second_present a.second_qualities.now) a.entries.now _ _ c.observe_tested-answer.ensures (opened c.in_default.in_default-own.keys2) c.requires.limit c.requires.counters c.requires.places (sym (length-map a.ranked.now (λ p. get_or (cut a.ends.now a.bases.now) p []))) _ c.share_of-width.ensures _ _ c.book_answer-booked.ensures
 
 pub returns : goal.returns
 returns c =

@@ -1,6 +1,6 @@
 -- `catch_commands::read_target` meets its contract: the head is judged first, then there are enough bytes, then the identifier.
 use mathlib.Core.Path.{refl, sym, ◌∙◌}
-use Prim.Native.Nat.{◌+◌, ◌-◌}
+use Prim.Native.Nat.{◌+◌, ◌-◌, ◌<◌, ◌≤◌}
 use native.Mathlib.Omega.{arith}
 use lib.ListN.{get_or}
 use Rattle.catch_commands.specs.Commands.{target_fits}
@@ -24,7 +24,7 @@ pub overflow_add-name : goal.overflow_add-name
 overflow_add-name c =
     let number = c.little_endian-count.result in
     let fits = sym c.target_fits.ensures ∙ c.if-not-target_fits.false in
-    let few =
+    let few : (let a = c.args in (get_or a.bytes.now 1 0 < 256) × (a.held + number ≤ 1024)) =
     let a = c.args in
     let l = target_count (get_or a.bytes.now 0 0) (get_or a.bytes.now 1 0) number a.targets a.held fits in
     omega (arith, c.shared_slice_known-3-1.given 1) in
@@ -34,7 +34,7 @@ pub returns-then-bytes-name : goal.returns-then-bytes-name
 returns-then-bytes-name c =
     let number = c.little_endian-count.result in
     let fits = sym c.target_fits.ensures ∙ c.if-not-target_fits.false in
-    let few =
+    let few : (let a = c.args in (get_or a.bytes.now 1 0 < 256) × (a.held + number ≤ 1024)) =
     let a = c.args in
     let l = target_count (get_or a.bytes.now 0 0) (get_or a.bytes.now 1 0) number a.targets a.held fits in
     omega (arith, c.shared_slice_known-3-1.given 1) in
@@ -54,7 +54,7 @@ pub returns : goal.returns
 returns c =
     let number = c.little_endian-count.result in
     let fits = sym c.target_fits.ensures ∙ c.if-not-target_fits.false in
-    let few =
+    let few : (let a = c.args in (get_or a.bytes.now 1 0 < 256) × (a.held + number ≤ 1024)) =
     let a = c.args in
     let l = target_count (get_or a.bytes.now 0 0) (get_or a.bytes.now 1 0) number a.targets a.held fits in
     omega (arith, c.shared_slice_known-3-1.given 1) in

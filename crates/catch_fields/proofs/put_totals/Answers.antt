@@ -1,5 +1,8 @@
 -- `catch_fields::put_totals` meets its contract.
 use native.Mathlib.Omega.{arith}
+use Rattle.catch_text.specs.Text.{spaced}
+use Rattle.catch_text.specs.Writing.{Adds}
+use Rattle.catch_fields.specs.Fields.{total_words}
 use Rattle.catch_text.proofs.Adding.{adds_both, adds_none}
 use Rattle.catch_text.proofs.Decimal.{decimal-room}
 use Rattle.catch_fields.proofs.put_totals.Goals as goal
@@ -34,7 +37,7 @@ returns-in-Unavailable c = record { adds = rw c.in-Unavailable.is c.put_bytes.en
 
 pub returns-in-Available : goal.returns-in-Available
 returns-in-Available c =
-    let added =
+    let added : (Adds (spaced (total_words c.args.totals)) c.args.out.now c.args.at c.put_decimal.new.out c.put_decimal.result) =
     rw c.in-Available.is
     (adds_both c.put_bytes-a.ensures
     (adds_both c.put_decimal-b.ensures
@@ -43,4 +46,4 @@ returns-in-Available c =
     (adds_both c.put_bytes-e.ensures
     (adds_both c.put_decimal.ensures (adds_none _ _))))))) in
     let k = c.in-Available.known_told-1-own in
-    record { adds = added c; room = omega (arith, decimal-room c.in-Available.t.placements (omega (arith, k)), decimal-room c.in-Available.t.singles (omega (arith, k)), decimal-room c.in-Available.t.multi (omega (arith, k))) }
+    record { adds = added; room = omega (arith, decimal-room c.in-Available.t.placements (omega (arith, k)), decimal-room c.in-Available.t.singles (omega (arith, k)), decimal-room c.in-Available.t.multi (omega (arith, k))) }

@@ -1,6 +1,6 @@
 -- `catch_fragments::read_read` meets its contract: the code, then the head is judged, then there are enough bytes.
 use mathlib.Core.Path.{refl, sym, ◌∙◌}
-use Prim.Native.Nat.{◌+◌, ◌-◌}
+use Prim.Native.Nat.{◌+◌, ◌-◌, ◌≤◌}
 use native.Mathlib.Omega.{arith}
 use lib.ListN.{get_or}
 use Rattle.catch_commands.specs.Commands.{read_fits}
@@ -25,7 +25,7 @@ pub overflow_add-count : goal.overflow_add-count
 overflow_add-count c =
     let number = c.little_endian-length.result in
     let fits = sym c.read_fits.ensures ∙ c.if-not-read_fits.false in
-    let few =
+    let few : ((number ≤ 4096) × (c.quality_count-qualities.result ≤ number)) =
     let a = c.args in
     let m = read_most (get_or a.bytes.now (a.at + 1) 0) (get_or a.bytes.now (a.at + 2) 0) number fits in
     let q = qualities_most (get_or a.bytes.now (a.at + 2) 0) number in
@@ -36,7 +36,7 @@ pub returns-then-left-count : goal.returns-then-left-count
 returns-then-left-count c =
     let number = c.little_endian-length.result in
     let fits = sym c.read_fits.ensures ∙ c.if-not-read_fits.false in
-    let few =
+    let few : ((number ≤ 4096) × (c.quality_count-qualities.result ≤ number)) =
     let a = c.args in
     let m = read_most (get_or a.bytes.now (a.at + 1) 0) (get_or a.bytes.now (a.at + 2) 0) number fits in
     let q = qualities_most (get_or a.bytes.now (a.at + 2) 0) number in
@@ -48,7 +48,7 @@ pub returns : goal.returns
 returns c =
     let number = c.little_endian-length.result in
     let fits = sym c.read_fits.ensures ∙ c.if-not-read_fits.false in
-    let few =
+    let few : ((number ≤ 4096) × (c.quality_count-qualities.result ≤ number)) =
     let a = c.args in
     let m = read_most (get_or a.bytes.now (a.at + 1) 0) (get_or a.bytes.now (a.at + 2) 0) number fits in
     let q = qualities_most (get_or a.bytes.now (a.at + 2) 0) number in
