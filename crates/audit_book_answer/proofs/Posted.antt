@@ -73,6 +73,8 @@ AllPost ranked (x ∷ xs) [] = ⊥
 AllPost ranked (x ∷ xs) (b ∷ bs) = Posts ranked x b × AllPost ranked xs bs
 
 pub posted_all_lem : (ranked : List ℕ) (xs : List TalliedRead) (bs : List Booked) → AllPost ranked xs bs → (books : Books) → posted_all xs books ≡ booked_all ranked bs books
+posted_all_lem ranked [] (b ∷ bs) p books = elim p [ ]
+posted_all_lem ranked (x ∷ xs) [] p books = elim p [ ]
 posted_all_lem ranked [] [] p books = refl
 posted_all_lem ranked (x ∷ xs) (b ∷ bs) p books = posted_all_lem ranked xs bs p.1 (posted_one x books) ∙ ap (booked_all ranked bs) (posted_one_lem ranked x b p.0 books)
 

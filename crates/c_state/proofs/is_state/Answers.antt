@@ -1,8 +1,8 @@
 -- `c_state::is_state` meets its contract: one test after the other.
-use mathlib.Core.Logic.{⊎_elim}
 use native.Mathlib.Omega.{arith}
 use Rattle.c_state.proofs.Testing.{wrong_length, wrong_layout, wrong_mode, wrong_remap, wrong_floor, wrong_flag, wrong_ordinal, with_last, without_last}
 use Rattle.c_state.proofs.is_state.Goals as goal
+use Rattle.c_state.proofs.is_state.Goals.{then-numbers-eq0, else-numbers-eq0}
 
 pub returns-then-numbers-ne-STATE_LENGTH : goal.returns-then-numbers-ne-STATE_LENGTH
 returns-then-numbers-ne-STATE_LENGTH c = wrong_length c.args.numbers.now (omega arith)
@@ -26,4 +26,8 @@ pub returns-then-numbers-ne0 : goal.returns-then-numbers-ne0
 returns-then-numbers-ne0 c = wrong_ordinal c.args.numbers.now (omega arith) (omega arith) (omega arith) (omega arith) (omega arith) (omega arith) (omega arith)
 
 pub returns : goal.returns
-returns c = ⊎_elim (λ w. without_last c.args.numbers.now (omega arith) (omega arith) (omega arith) (omega arith) (omega arith) (omega arith) (omega arith)) (λ w. with_last c.args.numbers.now (omega arith) (omega arith) (omega arith) (omega arith) (omega arith) (omega arith)) c.if-numbers-eq0.branch
+returns c =
+    elim c.if-numbers-eq0.branch [
+      then-numbers-eq0 w ↦ without_last c.args.numbers.now (omega arith) (omega arith) (omega arith) (omega arith) (omega arith) (omega arith) (omega arith)
+    | else-numbers-eq0 w ↦ with_last c.args.numbers.now (omega arith) (omega arith) (omega arith) (omega arith) (omega arith) (omega arith)
+    ]
