@@ -4,9 +4,9 @@
 // the index that `build` gives at 15, and sevens behind it.
 use crate::commands::run_command;
 use index_calls::build;
-use libc::STDIN_FILENO;
+use std::io::Read;
 use test_audit_io::desk::{Desk, nothing_held};
-use test_cases::reading::{case_end, room};
+use test_cases::reading::{case_end, read_full, room};
 use test_cases::targets::{
     base_ends_in, bases_in, identifier_ends_in, identifiers_in, lists_at, marks_in,
 };
@@ -14,6 +14,7 @@ use test_cases::writing::put;
 
 // The commands of a case, one after the other.
 fn run_commands(
+    rt: &impl Print,
     start: Desk,
     identifiers: &[u8],
     identifier_ends: &[usize],
@@ -27,6 +28,7 @@ fn run_commands(
     while at + 1 < s.len() {
         let end = case_end(s, at);
         desk = run_command(
+            rt,
             desk,
             identifiers,
             identifier_ends,
@@ -40,6 +42,7 @@ fn run_commands(
 }
 
 fn run_targets(
+    rt: &impl Print,
     identifiers: &[u8],
     identifier_ends: &[usize],
     bases: &[u8],
@@ -71,6 +74,7 @@ fn run_targets(
         held: nothing_held(),
     };
     run_commands(
+        rt,
         desk,
         identifiers,
         identifier_ends,
@@ -81,9 +85,9 @@ fn run_targets(
     );
 }
 
-fn run_case(s: &[u8]) {
+fn run_case(rt: &impl Print, s: &[u8]) {
     if s.len() < 10 {
-        return put(b"short\n");
+        return put(rt, b"short\n");
     }
     let lists = lists_at(s, 0, 10);
     let names = lists.names;
@@ -92,6 +96,7 @@ fn run_case(s: &[u8]) {
     let identifier_ends = identifier_ends_in(s, lists);
     let base_ends = base_ends_in(s, lists);
     run_targets(
+        rt,
         identifiers_in(s, lists),
         &identifier_ends[0..names],
         bases_in(s, lists),
@@ -101,26 +106,26 @@ fn run_case(s: &[u8]) {
     );
 }
 
-fn run_cases(s: &[u8]) {
+fn run_cases(rt: &impl Print, s: &[u8]) {
     let mut at = 0;
     while at + 1 < s.len() {
         let end = case_end(s, at);
-        run_case(&s[at + 2..end]);
+        run_case(rt, &s[at + 2..end]);
         at = end;
     }
 }
 
-fn run_block() {
+fn run_block<R: Read>(rt: &impl Print, input: &mut R) {
     let mut block = room();
-    let n = io::read_full(STDIN_FILENO, &mut block);
-    run_cases(&block[0..n]);
+    let n = read_full(input, &mut block);
+    run_cases(rt, &block[0..n]);
 }
 
-// Runs the cases of standard input, up to 16 blocks of bytes. No case goes over the end of a block.
-pub fn run_blocks() {
+// Runs the cases of an input, up to 16 blocks of bytes. No case goes over the end of a block.
+pub fn run_blocks<R: Read>(rt: &impl Print, input: &mut R) {
     let mut i: usize = 0;
     while i < 16 {
-        run_block();
+        run_block(rt, input);
         i += 1;
     }
 }

@@ -70,9 +70,9 @@ fn fill_columns(desk: Desk, which: u8, from: usize, to: usize, value: u64) -> De
     left
 }
 
-fn fill_command(desk: Desk, s: &[u8]) -> Desk {
+fn fill_command(rt: &impl Print, desk: Desk, s: &[u8]) -> Desk {
     if s.len() < 14 {
-        put(b"short\n");
+        put(rt, b"short\n");
         return desk;
     }
     let which = s[1];
@@ -83,9 +83,9 @@ fn fill_command(desk: Desk, s: &[u8]) -> Desk {
     fill_columns(left, which, from, to, value)
 }
 
-fn state_command(desk: Desk, s: &[u8]) -> Desk {
+fn state_command(rt: &impl Print, desk: Desk, s: &[u8]) -> Desk {
     if s.len() < 70 {
-        put(b"short\n");
+        put(rt, b"short\n");
         return desk;
     }
     let held = with_state(desk.held, state_of(s));
@@ -96,6 +96,7 @@ fn state_command(desk: Desk, s: &[u8]) -> Desk {
 
 // The call with all counters and columns, of which it lends as much as the command says.
 fn call_command(
+    rt: &impl Print,
     desk: Desk,
     identifiers: &[u8],
     identifier_ends: &[usize],
@@ -114,6 +115,7 @@ fn call_command(
     let positions = desk.positions;
     let before = desk.held;
     let held = lend(
+        rt,
         &mut placements,
         &mut singles,
         &mut multi,
@@ -140,6 +142,7 @@ fn call_command(
 }
 
 pub fn run_command(
+    rt: &impl Print,
     desk: Desk,
     identifiers: &[u8],
     identifier_ends: &[usize],
@@ -149,17 +152,18 @@ pub fn run_command(
     s: &[u8],
 ) -> Desk {
     if s.len() < 9 {
-        put(b"short\n");
+        put(rt, b"short\n");
         return desk;
     }
     let code = s[0];
     if code == 0 {
-        return fill_command(desk, s);
+        return fill_command(rt, desk, s);
     }
     if code == 1 {
-        return state_command(desk, s);
+        return state_command(rt, desk, s);
     }
     call_command(
+        rt,
         desk,
         identifiers,
         identifier_ends,

@@ -5,15 +5,16 @@ use audit_model::settings::AuditState;
 use audit_model::sheet::Sheet;
 use test_audit_io::answered::{put_call, put_sheet};
 
-fn put_finish(finished: Finish) -> Sheet {
+fn put_finish(rt: &impl Print, finished: Finish) -> Sheet {
     let answer = finished.answer;
     let sheet = finished.sheet;
-    put_call(answer, b"finished\n");
-    put_sheet(sheet);
+    put_call(rt, answer, b"finished\n");
+    put_sheet(rt, sheet);
     sheet
 }
 
 pub fn run_finish(
+    rt: &impl Print,
     placements: &[u64],
     singles: &[u64],
     multi: &[u64],
@@ -29,7 +30,7 @@ pub fn run_finish(
     state: AuditState,
 ) -> Sheet {
     if plain {
-        return put_finish(plain_finish(
+        let finished = plain_finish(
             placements,
             singles,
             multi,
@@ -39,9 +40,10 @@ pub fn run_finish(
             base_ends,
             marks,
             state,
-        ));
+        );
+        return put_finish(rt, finished);
     }
-    put_finish(finish(
+    let finished = finish(
         placements,
         singles,
         multi,
@@ -54,5 +56,6 @@ pub fn run_finish(
         base_ends,
         marks,
         state,
-    ))
+    );
+    put_finish(rt, finished)
 }

@@ -7,6 +7,7 @@ use test_audit_io::numbers::FragmentHead;
 use test_cases::writing::put_numbers;
 
 fn put_audit(
+    rt: &impl Print,
     audited: FragmentAudit,
     placements: &[u64],
     singles: &[u64],
@@ -15,14 +16,15 @@ fn put_audit(
 ) -> AuditState {
     let answer = audited.answer;
     let left = audited.state;
-    put_fragment(answer);
-    put_state(left);
-    put_counters(placements, singles, multi);
-    put_numbers(b"entries", entries);
+    put_fragment(rt, answer);
+    put_state(rt, left);
+    put_counters(rt, placements, singles, multi);
+    put_numbers(rt, b"entries", entries);
     left
 }
 
 pub fn run_fragment(
+    rt: &impl Print,
     entries: &mut [u64],
     placements: &mut [u64],
     singles: &mut [u64],
@@ -67,7 +69,7 @@ pub fn run_fragment(
             head.count,
             state,
         );
-        return put_audit(audited, placements, singles, multi, entries);
+        return put_audit(rt, audited, placements, singles, multi, entries);
     }
     let audited = fragment(
         entries,
@@ -94,5 +96,5 @@ pub fn run_fragment(
         head.count,
         state,
     );
-    put_audit(audited, placements, singles, multi, entries)
+    put_audit(rt, audited, placements, singles, multi, entries)
 }

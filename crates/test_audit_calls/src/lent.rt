@@ -16,6 +16,7 @@ use test_cases::writing::put;
 
 // The state that a fragment leaves. Its reads are whole, and the entries hold 999 before the call.
 fn fragment_command(
+    rt: &impl Print,
     placements: &mut [u64],
     singles: &mut [u64],
     multi: &mut [u64],
@@ -31,7 +32,7 @@ fn fragment_command(
     state: AuditState,
 ) -> AuditState {
     if s.len() < 37 {
-        put(b"short\n");
+        put(rt, b"short\n");
         return state;
     }
     let head = head_of(s);
@@ -42,6 +43,7 @@ fn fragment_command(
     let mut entries = [999u64; 256];
     let e = share(s, 2, 256);
     run_fragment(
+        rt,
         &mut entries[0..e],
         placements,
         singles,
@@ -65,6 +67,7 @@ fn fragment_command(
 
 // A call with what is lent to it.
 fn lent_call(
+    rt: &impl Print,
     placements: &mut [u64],
     singles: &mut [u64],
     multi: &mut [u64],
@@ -85,10 +88,11 @@ fn lent_call(
     let state = held.state;
     if code == 2 {
         if s.len() < 20 {
-            put(b"short\n");
+            put(rt, b"short\n");
             return held;
         }
         let left = run_open(
+            rt,
             placements,
             singles,
             multi,
@@ -107,6 +111,7 @@ fn lent_call(
     }
     if code == 3 {
         let left = fragment_command(
+            rt,
             placements,
             singles,
             multi,
@@ -125,6 +130,7 @@ fn lent_call(
     }
     if code == 4 {
         let sheet = run_finish(
+            rt,
             placements,
             singles,
             multi,
@@ -143,6 +149,7 @@ fn lent_call(
     }
     let sheet = held.sheet;
     apply_command(
+        rt,
         placements,
         singles,
         multi,
@@ -159,6 +166,7 @@ fn lent_call(
 
 // Lends as much of each list as the command says.
 pub fn lend(
+    rt: &impl Print,
     placements: &mut [u64],
     singles: &mut [u64],
     multi: &mut [u64],
@@ -182,6 +190,7 @@ pub fn lend(
     let r = share(s, 7, ranks.len());
     let o = share(s, 8, positions.len());
     lent_call(
+        rt,
         &mut placements[..p],
         &mut singles[..g],
         &mut multi[..m],

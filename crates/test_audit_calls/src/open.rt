@@ -4,16 +4,23 @@ use audit_model::calls::Opening;
 use audit_model::settings::{AuditState, Settings};
 use test_audit_io::answered::{put_call, put_counters, put_state};
 
-fn put_opening(opening: Opening, placements: &[u64], singles: &[u64], multi: &[u64]) -> AuditState {
+fn put_opening(
+    rt: &impl Print,
+    opening: Opening,
+    placements: &[u64],
+    singles: &[u64],
+    multi: &[u64],
+) -> AuditState {
     let answer = opening.answer;
     let state = opening.state;
-    put_call(answer, b"opened\n");
-    put_state(state);
-    put_counters(placements, singles, multi);
+    put_call(rt, answer, b"opened\n");
+    put_state(rt, state);
+    put_counters(rt, placements, singles, multi);
     state
 }
 
 pub fn run_open(
+    rt: &impl Print,
     placements: &mut [u64],
     singles: &mut [u64],
     multi: &mut [u64],
@@ -40,7 +47,7 @@ pub fn run_open(
             marks,
             settings,
         );
-        return put_opening(opening, placements, singles, multi);
+        return put_opening(rt, opening, placements, singles, multi);
     }
     let opening = open(
         placements,
@@ -56,5 +63,5 @@ pub fn run_open(
         marks,
         settings,
     );
-    put_opening(opening, placements, singles, multi)
+    put_opening(rt, opening, placements, singles, multi)
 }

@@ -11,6 +11,7 @@ use test_cases::targets::{
 use test_cases::writing::put_numbers;
 
 fn run_apply(
+    rt: &impl Print,
     rows: &mut [u64],
     placements: &[u64],
     singles: &[u64],
@@ -44,12 +45,13 @@ fn run_apply(
         marks,
         sheet,
     );
-    put_call(answer, b"applied\n");
-    put_numbers(b"rows", rows);
+    put_call(rt, answer, b"applied\n");
+    put_numbers(rt, b"rows", rows);
 }
 
 // The targets now written in a command, in rows that hold 999.
 fn apply_written(
+    rt: &impl Print,
     placements: &[u64],
     singles: &[u64],
     multi: &[u64],
@@ -71,6 +73,7 @@ fn apply_written(
     let name_ends = identifier_ends_in(s, lists);
     let sequence_ends = base_ends_in(s, lists);
     run_apply(
+        rt,
         &mut rows[0..r],
         placements,
         singles,
@@ -91,6 +94,7 @@ fn apply_written(
 
 // The targets now, or those of the case where none are written.
 pub fn apply_command(
+    rt: &impl Print,
     placements: &[u64],
     singles: &[u64],
     multi: &[u64],
@@ -106,6 +110,7 @@ pub fn apply_command(
 {
     if s.len() >= 19 {
         return apply_written(
+            rt,
             placements,
             singles,
             multi,
@@ -121,6 +126,7 @@ pub fn apply_command(
     let mut rows = [999u64; 256];
     let r = share(s, 2, 256);
     run_apply(
+        rt,
         &mut rows[0..r],
         placements,
         singles,

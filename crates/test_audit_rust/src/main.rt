@@ -3,6 +3,7 @@
 
 use test_audit_calls::case::run_blocks;
 
-fn main() {
-    run_blocks();
+fn main(rt: HostRuntime) {
+    let mut input = rt.stdin();
+    run_blocks(&rt, &mut input);
 }

@@ -11,9 +11,8 @@ ghost use Rattle.std.specs.Prelude.{◌≤◌, length};
 
 use index_calls::{Built, build};
 use index_plan::{IndexPlan, plan};
-use libc::STDIN_FILENO;
 use numbered::run_numbered;
-use test_cases::reading::{at_most, case_end, number};
+use test_cases::reading::{at_most, case_end, number, read_full};
 use test_cases::targets::{
     base_ends_in, bases_in, identifier_ends_in, identifiers_in, lists_at, marks_in,
 };
@@ -31,30 +30,30 @@ struct Room {
     positions: usize,
 }
 
-fn put_plan(p: IndexPlan) {
+fn put_plan(rt: &impl Print, p: IndexPlan) {
     match p {
-        IndexPlan::Refused(n) => put_line(b"plan refused ", n),
+        IndexPlan::Refused(n) => put_line(rt, b"plan refused ", n),
         IndexPlan::Planned(k) => {
             let numbers = [k.targets as u64, k.postings as u64];
-            put_numbers(b"plan", &numbers);
+            put_numbers(rt, b"plan", &numbers);
         }
     }
 }
 
-fn put_built(b: Built) {
+fn put_built(rt: &impl Print, b: Built) {
     match b {
-        Built::Refused(n) => put_line(b"build refused ", n),
-        Built::Built(n) => put_line(b"build ", n as u64),
+        Built::Refused(n) => put_line(rt, b"build refused ", n),
+        Built::Built(n) => put_line(rt, b"build ", n as u64),
     }
 }
 
-fn put_columns(keys: &[u64], ranks: &[u64], positions: &[u64], room: Room) {
+fn put_columns(rt: &impl Print, keys: &[u64], ranks: &[u64], positions: &[u64], room: Room) {
     let k = at_most(room.keys, keys.len());
     let r = at_most(room.ranks, ranks.len());
     let p = at_most(room.positions, positions.len());
-    put_numbers(b"keys", &keys[0..k]);
-    put_numbers(b"ranks", &ranks[0..r]);
-    put_numbers(b"positions", &positions[0..p]);
+    put_numbers(rt, b"keys", &keys[0..k]);
+    put_numbers(rt, b"ranks", &ranks[0..r]);
+    put_numbers(rt, b"positions", &positions[0..p]);
 }
 
 fn run_build(
@@ -87,6 +86,7 @@ fn run_build(
 
 // Plans, builds into columns of sevens, and tests what is left in them.
 fn run_calls(
+    rt: &impl Print,
     room: Room,
     identifiers: &[u8],
     identifier_ends: &[usize],
@@ -95,7 +95,8 @@ fn run_calls(
     marks: &[u8],
     q: usize,
 ) {
-    put_plan(plan(identifiers, identifier_ends, bases, base_ends, marks, q));
+    let planned = plan(identifiers, identifier_ends, bases, base_ends, marks, q);
+    put_plan(rt, planned);
     let mut keys = [7u64; 64];
     let mut ranks = [7u64; 64];
     let mut positions = [7u64; 64];
@@ -111,9 +112,10 @@ fn run_calls(
         marks,
         q,
     );
-    put_built(built);
-    put_columns(&keys, &ranks, &positions, room);
+    put_built(rt, built);
+    put_columns(rt, &keys, &ranks, &positions, room);
     run_tests(
+        rt,
         built,
         keys,
         ranks,
@@ -140,9 +142,9 @@ fn lent(s: &[u8]) -> Room
 }
 
 // A catalogue behind its lengths.
-fn run_catalogue(s: &[u8]) {
+fn run_catalogue(rt: &impl Print, s: &[u8]) {
     if s.len() < 19 {
-        return put(b"short\n");
+        return put(rt, b"short\n");
     }
     let lists = lists_at(s, 9, 19);
     let names = lists.names;
@@ -150,6 +152,7 @@ fn run_catalogue(s: &[u8]) {
     let identifier_ends = identifier_ends_in(s, lists);
     let base_ends = base_ends_in(s, lists);
     run_calls(
+        rt,
         lent(s),
         identifiers_in(s, lists),
         &identifier_ends[0..names],
@@ -160,27 +163,28 @@ fn run_catalogue(s: &[u8]) {
     );
 }
 
-fn run_case(s: &[u8]) {
+fn run_case(rt: &impl Print, s: &[u8]) {
     if s.len() < 1 {
-        return put(b"short\n");
+        return put(rt, b"short\n");
     }
     if s[0] == b'N' {
-        return run_numbered(s);
+        return run_numbered(rt, s);
     }
-    run_catalogue(s);
+    run_catalogue(rt, s);
 }
 
-fn run_cases(s: &[u8]) {
+fn run_cases(rt: &impl Print, s: &[u8]) {
     let mut at = 0;
     while at + 1 < s.len() {
         let end = case_end(s, at);
-        run_case(&s[at + 2..end]);
+        run_case(rt, &s[at + 2..end]);
         at = end;
     }
 }
 
-fn main() {
-    let mut buffer = io::large_buffer();
-    let n = io::read_full(STDIN_FILENO, &mut buffer);
-    run_cases(&buffer[0..n]);
+fn main(rt: HostRuntime) {
+    let mut buffer = [0u8; 65536];
+    let mut input = rt.stdin();
+    let n = read_full(&mut input, &mut buffer);
+    run_cases(&rt, &buffer[0..n]);
 }

@@ -65,7 +65,7 @@ fn repeated(n: usize, b: u8, other: u8) -> [u8; 4200]
 }
 
 // Plans for n targets of one base.
-fn plan_numbered(q: usize, n: usize, distinct: usize, closed: usize)
+fn plan_numbered(rt: &impl Print, q: usize, n: usize, distinct: usize, closed: usize)
     requires { n ≤ 4200 }
 {
     let names = numbered_names(n, distinct);
@@ -73,23 +73,24 @@ fn plan_numbered(q: usize, n: usize, distinct: usize, closed: usize)
     let bases = repeated(n, b'G', 0);
     let base_ends = numbered_ends(n, 1);
     let marks = repeated(at_most(closed, n), 1, 0);
-    put_plan(plan(
+    let planned = plan(
         &names[0..n * 2],
         &name_ends[0..n],
         &bases[0..n],
         &base_ends[0..n],
         &marks[0..n],
         q,
-    ));
+    );
+    put_plan(rt, planned);
 }
 
-pub fn run_numbered(s: &[u8]) {
+pub fn run_numbered(rt: &impl Print, s: &[u8]) {
     if s.len() < 9 {
-        return put(b"short\n");
+        return put(rt, b"short\n");
     }
     let n = number(s, 3);
     if 4200 < n {
-        return put(b"long\n");
+        return put(rt, b"long\n");
     }
-    plan_numbered(number(s, 1), n, number(s, 5), number(s, 7));
+    plan_numbered(rt, number(s, 1), n, number(s, 5), number(s, 7));
 }

@@ -8,18 +8,18 @@ use test_cases::writing::{put, put_line};
 
 // The tests: of the entries lent; of the postings built; of these with one key, one rank or one position raised, with
 // the first and the last exchanged, with the last left out of all columns, or of one.
-fn put_test(k: usize) {
+fn put_test(rt: &impl Print, k: usize) {
     match k {
-        0 => put(b"lent"),
-        1 => put(b"built"),
-        2 => put(b"key"),
-        3 => put(b"rank"),
-        4 => put(b"position"),
-        5 => put(b"exchanged"),
-        6 => put(b"fewer"),
-        7 => put(b"fewer keys"),
-        8 => put(b"fewer ranks"),
-        _ => put(b"fewer positions"),
+        0 => put(rt, b"lent"),
+        1 => put(rt, b"built"),
+        2 => put(rt, b"key"),
+        3 => put(rt, b"rank"),
+        4 => put(rt, b"position"),
+        5 => put(rt, b"exchanged"),
+        6 => put(rt, b"fewer"),
+        7 => put(rt, b"fewer keys"),
+        8 => put(rt, b"fewer ranks"),
+        _ => put(rt, b"fewer positions"),
     }
 }
 
@@ -96,6 +96,7 @@ fn entries(lent: usize, k: usize, own: usize, n: usize) -> usize
 
 // Test k of n postings.
 fn run_test(
+    rt: &impl Print,
     k: usize,
     n: usize,
     keys: [u64; 64],
@@ -116,7 +117,7 @@ fn run_test(
     let a = entries(room.keys, k, 7, n);
     let b = entries(room.ranks, k, 8, n);
     let c = entries(room.positions, k, 9, n);
-    put_test(k);
+    put_test(rt, k);
     let answer = check_index(
         &ks[0..a],
         &rs[0..b],
@@ -128,10 +129,11 @@ fn run_test(
         marks,
         q,
     );
-    put_line(b" ", answer);
+    put_line(rt, b" ", answer);
 }
 
 pub fn run_tests(
+    rt: &impl Print,
     built: Built,
     keys: [u64; 64],
     ranks: [u64; 64],
@@ -149,6 +151,7 @@ pub fn run_tests(
     let mut k = 0;
     while k < end {
         run_test(
+            rt,
             k,
             n,
             keys,

@@ -3,7 +3,7 @@ use map_answers::answer::{MapAnswer, Mapping, state_number};
 use test_cases::writing::{put_line, put_numbers};
 
 // State, number of groups and work counts.
-pub fn put_mapping(m: Mapping) {
+pub fn put_mapping(rt: &impl Print, m: Mapping) {
     let state = m.state;
     let work = m.work;
     let numbers = [
@@ -15,14 +15,14 @@ pub fn put_mapping(m: Mapping) {
         work.comparisons,
         work.seen,
     ];
-    put_numbers(b"mapped", &numbers);
+    put_numbers(rt, b"mapped", &numbers);
 }
 
 // An answer, and what the call leaves in the entries.
-pub fn put_answer(answer: MapAnswer, entries: &[u64]) {
+pub fn put_answer(rt: &impl Print, answer: MapAnswer, entries: &[u64]) {
     match answer {
-        MapAnswer::Refused(n) => put_line(b"refused ", n),
-        MapAnswer::Mapped(m) => put_mapping(m),
+        MapAnswer::Refused(n) => put_line(rt, b"refused ", n),
+        MapAnswer::Mapped(m) => put_mapping(rt, m),
     }
-    put_numbers(b"entries", entries);
+    put_numbers(rt, b"entries", entries);
 }

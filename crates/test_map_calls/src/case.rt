@@ -5,8 +5,8 @@
 ghost use Rattle.std.specs.Prelude.{◌≤◌, length};
 
 use crate::lent::{Call, run_call};
-use libc::STDIN_FILENO;
-use test_cases::reading::{case_end, number, part, room, whole_length, whole_read};
+use std::io::Read;
+use test_cases::reading::{case_end, number, part, read_full, room, whole_length, whole_read};
 use test_cases::targets::{
     base_ends_in, bases_in, identifier_ends_in, identifiers_in, lists_at, marks_in,
 };
@@ -29,9 +29,9 @@ fn call_of(s: &[u8], records: bool) -> Call
     }
 }
 
-fn run_case(s: &[u8], records: bool) {
+fn run_case(rt: &impl Print, s: &[u8], records: bool) {
     if s.len() < 32 {
-        return put(b"short\n");
+        return put(rt, b"short\n");
     }
     let lists = lists_at(s, 20, 32);
     let names = lists.names;
@@ -43,6 +43,7 @@ fn run_case(s: &[u8], records: bool) {
     let read = whole_read(written, more);
     let n = whole_length(written, more);
     run_call(
+        rt,
         call_of(s, records),
         identifiers_in(s, lists),
         &identifier_ends[0..names],
@@ -53,27 +54,27 @@ fn run_case(s: &[u8], records: bool) {
     );
 }
 
-fn run_cases(s: &[u8], records: bool) {
+fn run_cases(rt: &impl Print, s: &[u8], records: bool) {
     let mut at = 0;
     while at + 1 < s.len() {
         let end = case_end(s, at);
-        run_case(&s[at + 2..end], records);
+        run_case(rt, &s[at + 2..end], records);
         at = end;
     }
 }
 
-fn run_block(records: bool) {
+fn run_block<R: Read>(rt: &impl Print, input: &mut R, records: bool) {
     let mut block = room();
-    let n = io::read_full(STDIN_FILENO, &mut block);
-    run_cases(&block[0..n], records);
+    let n = read_full(input, &mut block);
+    run_cases(rt, &block[0..n], records);
 }
 
-// Runs the calls of standard input, up to 16 blocks of bytes, with the index lent as columns or as records. No case goes
+// Runs the calls of an input, up to 16 blocks of bytes, with the index lent as columns or as records. No case goes
 // over the end of a block.
-pub fn run_blocks(records: bool) {
+pub fn run_blocks<R: Read>(rt: &impl Print, input: &mut R, records: bool) {
     let mut i: usize = 0;
     while i < 16 {
-        run_block(records);
+        run_block(rt, input, records);
         i += 1;
     }
 }

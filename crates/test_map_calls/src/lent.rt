@@ -37,6 +37,7 @@ fn lent_column(column: [u64; 256], own: usize, call: Call) -> [u64; 256]
 }
 
 fn run_map(
+    rt: &impl Print,
     entries: &mut [u64],
     keys: &[u64],
     ranks: &[u64],
@@ -64,7 +65,7 @@ fn run_map(
             read,
             call.limit,
         );
-        return put_answer(answer, entries);
+        return put_answer(rt, answer, entries);
     }
     let answer = map(
         entries,
@@ -80,11 +81,12 @@ fn run_map(
         read,
         call.limit,
     );
-    put_answer(answer, entries);
+    put_answer(rt, answer, entries);
 }
 
 // Lends as much of each buffer as the case says.
 fn run_lent(
+    rt: &impl Print,
     call: Call,
     keys: &[u64],
     ranks: &[u64],
@@ -102,6 +104,7 @@ fn run_lent(
     let r = at_most(call.ranks, ranks.len());
     let p = at_most(call.positions, positions.len());
     run_map(
+        rt,
         &mut entries[0..e],
         &keys[0..k],
         &ranks[0..r],
@@ -117,6 +120,7 @@ fn run_lent(
 }
 
 pub fn run_call(
+    rt: &impl Print,
     call: Call,
     identifiers: &[u8],
     identifier_ends: &[usize],
@@ -143,6 +147,7 @@ pub fn run_call(
     let rs = lent_column(ranks, 2, call);
     let ps = lent_column(positions, 3, call);
     run_lent(
+        rt,
         call,
         &ks,
         &rs,

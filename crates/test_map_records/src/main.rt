@@ -3,6 +3,7 @@
 
 use test_map_calls::case::run_blocks;
 
-fn main() {
-    run_blocks(true);
+fn main(rt: HostRuntime) {
+    let mut input = rt.stdin();
+    run_blocks(&rt, &mut input, true);
 }

@@ -15,20 +15,20 @@ use test_cases::writing::{put, put_number, put_numbers};
 use test_map_calls::answered::put_answer;
 use test_map_calls::records::records_of;
 
-fn put_step(step: Step) {
+fn put_step(rt: &impl Print, step: Step) {
     let candidate = step.candidate;
     let cursor = step.cursor;
     let work = step.work;
     if candidate.found {
-        put_number(b"found ", candidate.rank as u64);
-        put_number(b" ", candidate.start as u64);
+        put_number(rt, b"found ", candidate.rank as u64);
+        put_number(rt, b" ", candidate.start as u64);
     } else {
-        put(b"none");
+        put(rt, b"none");
     }
-    put_number(b", cursor ", cursor.strand);
-    put_number(b" ", cursor.offset as u64);
-    put_number(b" ", cursor.next as u64);
-    put_number(b" ", cursor.end as u64);
+    put_number(rt, b", cursor ", cursor.strand);
+    put_number(rt, b" ", cursor.offset as u64);
+    put_number(rt, b" ", cursor.next as u64);
+    put_number(rt, b" ", cursor.end as u64);
     let counts = [
         work.lookups,
         work.hits,
@@ -36,16 +36,16 @@ fn put_step(step: Step) {
         work.comparisons,
         work.seen,
     ];
-    put_numbers(b", work", &counts);
+    put_numbers(rt, b", work", &counts);
 }
 
 // Moves a cursor on for a read of n bases, with a seed at an offset and a count of postings examined before.
-fn run_cursor(next: usize, end: usize, offset: usize, n: usize, examined: u64) {
+fn run_cursor(rt: &impl Print, next: usize, end: usize, offset: usize, n: usize, examined: u64) {
     if 6 < end {
-        return put(b"long\n");
+        return put(rt, b"long\n");
     }
     if end < next {
-        return put(b"short\n");
+        return put(rt, b"short\n");
     }
     let bases = [65u8, 67, 71, 84, 65, 67, 71, 84];
     let ends = [8usize];
@@ -66,7 +66,7 @@ fn run_cursor(next: usize, end: usize, offset: usize, n: usize, examined: u64) {
         seen: 14,
     };
     let step = advanced(cursor, work, &bases, &ends, &ranked, &ranks, &positions, n);
-    put_step(step);
+    put_step(rt, step);
 }
 
 // The index as records.
@@ -92,14 +92,15 @@ fn index() -> [SeedPosting; 256]
     records_of(&ks, &rs, &os)
 }
 
-fn put_columns(keys: &[u64], ranks: &[u64], positions: &[u64]) {
-    put_numbers(b"keys", keys);
-    put_numbers(b"ranks", ranks);
-    put_numbers(b"positions", positions);
+fn put_columns(rt: &impl Print, keys: &[u64], ranks: &[u64], positions: &[u64]) {
+    put_numbers(rt, b"keys", keys);
+    put_numbers(rt, b"ranks", ranks);
+    put_numbers(rt, b"positions", positions);
 }
 
 // Maps a read with the first n records of the index, and writes the answer and what is left in the buffers.
 fn run_lent(
+    rt: &impl Print,
     entries: &mut [u64],
     keys: &mut [u64],
     ranks: &mut [u64],
@@ -126,12 +127,20 @@ fn run_lent(
         read,
         10,
     );
-    put_answer(answer, entries);
-    put_columns(keys, ranks, positions);
+    put_answer(rt, answer, entries);
+    put_columns(rt, keys, ranks, positions);
 }
 
 // Lends columns of these lengths that hold sevens.
-fn run_records(q: usize, n: usize, keys: usize, ranks: usize, positions: usize, read: &[u8]) {
+fn run_records(
+    rt: &impl Print,
+    q: usize,
+    n: usize,
+    keys: usize,
+    ranks: usize,
+    positions: usize,
+    read: &[u8],
+) {
     let mut entries = [999u64; 20];
     let mut ks = [7u64; 8];
     let mut rs = [7u64; 8];
@@ -140,6 +149,7 @@ fn run_records(q: usize, n: usize, keys: usize, ranks: usize, positions: usize, 
     let r = at_most(ranks, 8);
     let o = at_most(positions, 8);
     run_lent(
+        rt,
         &mut entries,
         &mut ks[0..k],
         &mut rs[0..r],
@@ -151,33 +161,33 @@ fn run_records(q: usize, n: usize, keys: usize, ranks: usize, positions: usize, 
 }
 
 // A cursor over the postings of one key, over those of two, and with a count that is full.
-fn run_cursors() {
-    run_cursor(0, 2, 0, 3, 0);
-    run_cursor(1, 2, 0, 3, 1);
-    run_cursor(2, 2, 0, 3, 2);
-    run_cursor(1, 2, 0, 5, 1);
-    run_cursor(0, 6, 4, 8, 20);
-    run_cursor(2, 6, 5, 8, 20);
-    run_cursor(0, 6, 0, 9, 18446744073709551613);
-    run_cursor(0, 6, 0, 9, 18446744073709551609);
+fn run_cursors(rt: &impl Print) {
+    run_cursor(rt, 0, 2, 0, 3, 0);
+    run_cursor(rt, 1, 2, 0, 3, 1);
+    run_cursor(rt, 2, 2, 0, 3, 2);
+    run_cursor(rt, 1, 2, 0, 5, 1);
+    run_cursor(rt, 0, 6, 4, 8, 20);
+    run_cursor(rt, 2, 6, 5, 8, 20);
+    run_cursor(rt, 0, 6, 0, 9, 18446744073709551613);
+    run_cursor(rt, 0, 6, 0, 9, 18446744073709551609);
 }
 
 // With room, with just room, without, and refused before and behind it.
-fn run_entries() {
-    run_records(3, 6, 8, 8, 8, b"ACG");
-    run_records(3, 6, 6, 7, 8, b"ACG");
-    run_records(3, 6, 5, 8, 8, b"ACG");
-    run_records(3, 6, 8, 5, 8, b"ACG");
-    run_records(3, 6, 8, 8, 5, b"ACG");
-    run_records(0, 6, 5, 5, 5, b"ACG");
-    run_records(3, 5, 8, 8, 8, b"ACG");
-    run_records(3, 7, 8, 8, 8, b"ACG");
-    run_records(2, 6, 8, 8, 8, b"ACG");
-    run_records(3, 6, 8, 8, 8, b"ACN");
-    run_records(3, 6, 8, 8, 8, b"AAA");
+fn run_entries(rt: &impl Print) {
+    run_records(rt, 3, 6, 8, 8, 8, b"ACG");
+    run_records(rt, 3, 6, 6, 7, 8, b"ACG");
+    run_records(rt, 3, 6, 5, 8, 8, b"ACG");
+    run_records(rt, 3, 6, 8, 5, 8, b"ACG");
+    run_records(rt, 3, 6, 8, 8, 5, b"ACG");
+    run_records(rt, 0, 6, 5, 5, 5, b"ACG");
+    run_records(rt, 3, 5, 8, 8, 8, b"ACG");
+    run_records(rt, 3, 7, 8, 8, 8, b"ACG");
+    run_records(rt, 2, 6, 8, 8, 8, b"ACG");
+    run_records(rt, 3, 6, 8, 8, 8, b"ACN");
+    run_records(rt, 3, 6, 8, 8, 8, b"AAA");
 }
 
-fn main() {
-    run_cursors();
-    run_entries();
+fn main(rt: HostRuntime) {
+    run_cursors(&rt);
+    run_entries(&rt);
 }

@@ -19,7 +19,7 @@ first_rank (suc (suc (suc (suc (suc (suc i)))))) = omega arith
 
 pub advanced-step-requires : goal.advanced-step-requires
 unfolding is_capital
-advanced-step-requires c = (
+advanced-step-requires g c = (
   record { right = refl; total = refl; few = omega arith; places = refl; capitals = refl },
   record { ordered = omega arith; in_ranks = omega arith; in_positions = omega arith; ranked = λ i l. first_rank i },
 )

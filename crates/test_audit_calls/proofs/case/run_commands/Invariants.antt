@@ -4,7 +4,7 @@ use lib.ListN.{length}
 use Rattle.test_audit_calls.proofs.case.run_commands.Given as goal
 
 abbrev pub invariant-loop-at : goal.invariant-loop-at
-invariant-loop-at l = l.at ≤ length l.s
+invariant-loop-at g l = l.at ≤ length l.s
 
 abbrev pub decreases-loop-at : goal.decreases-loop-at
-decreases-loop-at l = length l.s - l.at
+decreases-loop-at g l = length l.s - l.at
