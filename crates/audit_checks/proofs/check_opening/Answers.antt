@@ -37,8 +37,8 @@ index_fits-requires c =
 pub returns-then-not-index_fits : goal.returns-then-not-index_fits
 returns-then-not-index_fits c =
     let tested : c.if-indexed.tested ≡ (c.args.indexed && c.args.settings.remap) = elim c.if-indexed.branch [
-      then-indexed h ↦ h.tested-is ∙ ap (λ b. b && c.args.settings.remap) (sym h.if-indexed.true)
-    | else-indexed h ↦ h.tested-is ∙ h.if-indexed.false ∙ ap (λ b. b && c.args.settings.remap) (sym h.if-indexed.false)
+      | then-indexed h ↦ h.tested-is ∙ ap (λ b. b && c.args.settings.remap) (sym h.if-indexed.true)
+      | else-indexed h ↦ h.tested-is ∙ h.if-indexed.false ∙ ap (λ b. b && c.args.settings.remap) (sym h.if-indexed.false)
     ] in
     let a = c.args in
     index_refused _ _ _ a.indexed a.keys.now a.ranks.now a.positions.now _ (counters_of a.placements.now a.singles.now a.multi.now) _ c.settings_refusal-refusal.ensures c.if-refusal-ne0.false _ c.counters_right.ensures c.if-not-counters_right.false-raw c.requires.seed _ _ c.rank_checked-ranking.ensures _ c.in-Ranked.is _ tested _ c.index_fits.ensures (omega arith) c.if-not-index_fits.true-raw
@@ -46,8 +46,8 @@ returns-then-not-index_fits c =
 pub returns : goal.returns
 returns c =
     let tested : c.if-indexed.tested ≡ (c.args.indexed && c.args.settings.remap) = elim c.if-indexed.branch [
-      then-indexed h ↦ h.tested-is ∙ ap (λ b. b && c.args.settings.remap) (sym h.if-indexed.true)
-    | else-indexed h ↦ h.tested-is ∙ h.if-indexed.false ∙ ap (λ b. b && c.args.settings.remap) (sym h.if-indexed.false)
+      | then-indexed h ↦ h.tested-is ∙ ap (λ b. b && c.args.settings.remap) (sym h.if-indexed.true)
+      | else-indexed h ↦ h.tested-is ∙ h.if-indexed.false ∙ ap (λ b. b && c.args.settings.remap) (sym h.if-indexed.false)
     ] in
     let a = c.args in
     all_right _ _ _ a.indexed a.keys.now a.ranks.now a.positions.now _ (counters_of a.placements.now a.singles.now a.multi.now) _ c.settings_refusal-refusal.ensures c.if-refusal-ne0.false _ c.counters_right.ensures c.if-not-counters_right.false-raw c.requires.seed _ _ c.rank_checked-ranking.ensures _ c.in-Ranked.is _ tested _ c.index_fits.ensures c.if-not-index_fits.false-raw

@@ -12,8 +12,8 @@ loop-i-preserved c =
     let here = c.loop-i-test.true in
     let e = sym c.counts.ensures in
     elim c.if-counts.branch [
-      then-counts w ↦ runs_more _ _ _ _ l.invariant here _ w.runs-is (e ∙ w.if-counts.true)
-    | else-counts w ↦ runs_same _ _ _ _ l.invariant here _ w.runs-is (e ∙ w.if-counts.false)
+      | then-counts w ↦ runs_more _ _ _ _ l.invariant here _ w.runs-is (e ∙ w.if-counts.true)
+      | else-counts w ↦ runs_same _ _ _ _ l.invariant here _ w.runs-is (e ∙ w.if-counts.false)
     ]
 
 pub returns : goal.returns

@@ -21,13 +21,16 @@ bounds-ordinals-i c = omega (arith, c.loop-i-test.true)
 pub audit_listed-held-requires : goal.audit_listed-held-requires
 audit_listed-held-requires c =
     let g = c.loop-i.invariant in
-    let more = c.loop-i-test.true in record { tested = tested_alike c.args.indexed c.args.q _ _ _ _ _ _ _ _ g.alike c.requires.tested; reads_lent = (
+    let more = c.loop-i-test.true in record {
+      tested = tested_alike c.args.indexed c.args.q _ _ _ _ _ _ _ _ g.alike c.requires.tested;
+      reads_lent = (
         c.requires.lists_lent.reads_lent,
         (
           share_room _ _ _ _ _ _ _ _ _ c.requires.lists_lent.counted _ _ c.requires.lists_lent.shared _ _ _ _ _ g more,
           omega (arith, rows-room _ _ _ _ _ _ _ _ _ c.requires.lists_lent.counted _ _ c.requires.lists_lent.shared _ _ _ _ _ g more, g.rows_long),
         ),
-      ) }
+      );
+    }
 
 pub overflow_add-at : goal.overflow_add-at
 overflow_add-at c = omega (arith, rows-room _ _ _ _ _ _ _ _ _ c.requires.lists_lent.counted _ _ c.requires.lists_lent.shared _ _ _ _ _ c.loop-i.invariant c.loop-i-test.true, c.requires.lists_lent.rows-lent, c.type_inv.0)

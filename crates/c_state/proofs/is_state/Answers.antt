@@ -2,7 +2,7 @@
 use native.Mathlib.Omega.{arith}
 use Rattle.c_state.proofs.Testing.{wrong_length, wrong_layout, wrong_mode, wrong_remap, wrong_floor, wrong_flag, wrong_ordinal, with_last, without_last}
 use Rattle.c_state.proofs.is_state.Goals as goal
-use Rattle.c_state.proofs.is_state.Goals.{then-numbers-eq0, else-numbers-eq0}
+use Rattle.c_state.proofs.is_state.Goals.{then-numbers-eq0+else-numbers-ne0, else-numbers-eq0}
 
 pub returns-then-numbers-ne-STATE_LENGTH : goal.returns-then-numbers-ne-STATE_LENGTH
 returns-then-numbers-ne-STATE_LENGTH c = wrong_length c.args.numbers.now (omega arith)
@@ -28,6 +28,6 @@ returns-then-numbers-ne0 c = wrong_ordinal c.args.numbers.now (omega arith) (ome
 pub returns : goal.returns
 returns c =
     elim c.if-numbers-eq0.branch [
-      then-numbers-eq0 w ↦ without_last c.args.numbers.now (omega arith) (omega arith) (omega arith) (omega arith) (omega arith) (omega arith) (omega arith)
-    | else-numbers-eq0 w ↦ with_last c.args.numbers.now (omega arith) (omega arith) (omega arith) (omega arith) (omega arith) (omega arith)
+      | then-numbers-eq0+else-numbers-ne0 w ↦ without_last c.args.numbers.now (omega arith) (omega arith) (omega arith) (omega arith) (omega arith) (omega arith) (omega arith)
+      | else-numbers-eq0 w ↦ with_last c.args.numbers.now (omega arith) (omega arith) (omega arith) (omega arith) (omega arith) (omega arith)
     ]

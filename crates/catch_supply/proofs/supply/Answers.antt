@@ -65,8 +65,11 @@ returns-in-Read c =
     let n = c.in-Read.head.name in
     let m = c.in-Read.head.count in
     let k = c.store_target-supply in
-    let l = target_there a.held a.identifiers.now a.identifier_ends.now a.bases.now a.base_ends.now a.marks.now c.requires.0 a.bytes.now _ c.read_target.ensures _ c.in-Read.is in record { supply_told = λ t. record {
+    let l = target_there a.held a.identifiers.now a.identifier_ends.now a.bases.now a.base_ends.now a.marks.now c.requires.0 a.bytes.now _ c.read_target.ensures _ c.in-Read.is in record {
+      supply_told = λ t. record {
         text = [];
         adds = nothing_added a.out.now a.at;
         told = supply-went a.held a.identifiers.now a.identifier_ends.now a.bases.now a.base_ends.now a.marks.now c.requires.0 a.bytes.now _ c.read_target.ensures _ c.in-Read.is (6 + n - 6) (6 + n + m - (6 + n)) (supplied_in k.result k.new.identifiers k.new.identifier_ends k.new.bases k.new.base_ends k.new.marks) k.ensures.marks_value (omega arith) (omega arith) (1 + (6 + n + m)) (omega arith) t;
-      }; supply_kept = kept_more a.held a.identifiers.now a.identifier_ends.now a.bases.now a.base_ends.now a.marks.now c.requires.0 a.bytes.now _ c.read_target.ensures _ c.in-Read.is k.result k.new.identifiers k.new.identifier_ends k.new.bases k.new.base_ends k.new.marks (6 + n - 6) (6 + n + m - (6 + n)) _ _ (omega arith) (omega arith) k.ensures.value k.auto.identifiers k.auto.identifier_ends k.auto.bases k.auto.base_ends k.auto.marks }
+      };
+      supply_kept = kept_more a.held a.identifiers.now a.identifier_ends.now a.bases.now a.base_ends.now a.marks.now c.requires.0 a.bytes.now _ c.read_target.ensures _ c.in-Read.is k.result k.new.identifiers k.new.identifier_ends k.new.bases k.new.base_ends k.new.marks (6 + n - 6) (6 + n + m - (6 + n)) _ _ (omega arith) (omega arith) k.ensures.value k.auto.identifiers k.auto.identifier_ends k.auto.bases k.auto.base_ends k.auto.marks;
+    }

@@ -27,11 +27,14 @@ pub pass_side-passed-requires : goal.pass_side-passed-requires
 pass_side-passed-requires c =
     let a = c.args in
     let waits = sym c.waits.ensures ∙ c.if-not-waits.false in
-    let e : c.side-first.result ≡ first_of a.sides = c.side-first.ensures ∙ ap (λ b. cond b a.sides.plus a.sides.minus) c.plus_first-plus.ensures in record { searchable = c.requires.searchable; candidate_lent = record {
+    let e : c.side-first.result ≡ first_of a.sides = c.side-first.ensures ∙ ap (λ b. cond b a.sides.plus a.sides.minus) c.plus_first-plus.ensures in record {
+      searchable = c.requires.searchable;
+      candidate_lent = record {
         waits = rw e (first_waits a.sides waits);
         inside = rw e (c.requires.sides_lent.first_inside waits);
         cursor_in = rw e (first_cursor a.sides a.ranks.now a.positions.now (length a.ranked.now) c.requires.sides_lent.cursors_in);
-      } }
+      };
+    }
 
 pub returns-then-plus : goal.returns-then-plus
 returns-then-plus c =

@@ -22,11 +22,14 @@ loop-start-init c =
 pub is_followed-requires : goal.is_followed-requires
 is_followed-requires c =
     let a = c.args in
-    let e = c.ranked_sequence-sequence.ensures in record { laid = record {
+    let e = c.ranked_sequence-sequence.ensures in record {
+      laid = record {
         fits = omega (arith, c.loop-start.invariant.inside, ap length e);
         capitals = fit_capitals a.bases.now a.ends.now a.ranked.now a.read.now c.requires.searchable (place_of a.first) c.requires.candidate_lent.inside _ e;
         letters = c.requires.searchable.letters;
-      }; end_in_bounds = (c.requires.candidate_lent.cursor_in.in_ranks, c.requires.candidate_lent.cursor_in.in_positions) }
+      };
+      end_in_bounds = (c.requires.candidate_lent.cursor_in.in_ranks, c.requires.candidate_lent.cursor_in.in_positions);
+    }
 
 pub posting_position-requires : goal.posting_position-requires
 posting_position-requires c = let f = c.is_followed.ensures c.loop-start-test.true in omega (arith, f.inside, c.requires.candidate_lent.cursor_in.in_positions)

@@ -1,11 +1,9 @@
 -- `catalogue::bounds::in_bounds` meets its contract, by the tests in their order.
-use mathlib.Core.Path.{◌≡◌, sym, ap, ◌∙◌}
-use Prim.Native.Nat.{◌≤◌, min}
+use mathlib.Core.Path.{sym, ap, ◌∙◌}
 use mathlib.Core.Bool.{true}
 use native.Mathlib.Omega.{arith}
-use lib.ListN.{length}
 use Rattle.lists.specs.Cut.{ends_within}
-use Rattle.catalogue.specs.Catalogue.{lent_catalogue, max_targets, max_bases}
+use Rattle.catalogue.specs.Catalogue.{lent_catalogue}
 use Rattle.catalogue.proofs.Checks.{too_many, other_sequences, other_marks, name_ends, base_ends_lem, long_name, by_marks}
 use Rattle.catalogue.proofs.bounds.in_bounds.Goals as goal
 

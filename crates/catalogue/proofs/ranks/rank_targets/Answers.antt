@@ -5,7 +5,6 @@ use Prim.Native.Nat.{ℕ, ◌≤◌}
 use native.Mathlib.Omega.{arith}
 use lib.ListN.{length}
 use lib.Seq.{length-take-le}
-use borrow.Author.Tests.{not-false}
 use Rattle.catalogue.specs.Catalogue.{Catalogue, lent_catalogue, in_bounds, max_targets}
 use Rattle.catalogue.proofs.Checks.{bounded}
 use Rattle.catalogue.proofs.Refusals.{out_of_bounds, bad_bases, ranked_as}

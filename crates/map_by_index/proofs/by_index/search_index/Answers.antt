@@ -93,11 +93,14 @@ pass-passed-requires c =
     let first = c.plus_first-plus_first.ensures in
     let waits = sym c.waits.ensures ∙ c.loop-plus_first-test.true in
     let next = c.side-next.ensures in
-    let on = both_more _ ss a.ranked.now _ _ _ _ _ _ _ _ ch _ _ _ _ at _ first waits _ next _ _ _ c.visit-tally.ensures (omega (arith, c.if-bound-tally.false)) _ c.moved-sides.ensures in record { searchable = c.requires.index_searchable.searchable; sides_lent = record {
+    let on = both_more _ ss a.ranked.now _ _ _ _ _ _ _ _ ch _ _ _ _ at _ first waits _ next _ _ _ c.visit-tally.ensures (omega (arith, c.if-bound-tally.false)) _ c.moved-sides.ensures in record {
+      searchable = c.requires.index_searchable.searchable;
+      sides_lent = record {
         inside = both_fits _ ss a.ranked.now _ _ _ _ _ _ _ _ ch _ _ _ _ at _ first waits _ next;
         first_inside = λ w. both_fits _ ss a.ranked.now _ _ _ _ _ _ _ _ ch _ _ _ _ on _ refl w _ refl;
         cursors_in = ready_cursors _ _ _ _ _ _ _ _ c.requires.index_searchable c.requires.q_in_bounds.0 _ _ p m a.bound a.entries.now _ _ _ _ on;
-      } }
+      };
+    }
 
 pub counted-tally-requires : goal.counted-tally-requires
 counted-tally-requires c =
