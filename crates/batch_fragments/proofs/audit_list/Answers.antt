@@ -6,18 +6,6 @@ use Rattle.batch_fragments.proofs.audit_list.Goals as goal
 pub loop-i-init : goal.loop-i-init
 loop-i-init c = let p = c.requires.lists_lent in start _ _ _ _ _ _ _ _ _ p.counted _ _ p.shared _ p.rows-lent
 
-pub offset_bounds-counts-i : goal.offset_bounds-counts-i
-offset_bounds-counts-i c = omega (arith, c.loop-i-test.true, c.requires.lists_lent.counted, c.type_inv.1.1.1.1.1.1.1.1.1.1.1.1.0)
-
-pub bounds-counts-i : goal.bounds-counts-i
-bounds-counts-i c = omega (arith, c.loop-i-test.true, c.requires.lists_lent.counted)
-
-pub offset_bounds-ordinals-i : goal.offset_bounds-ordinals-i
-offset_bounds-ordinals-i c = omega (arith, c.loop-i-test.true, c.type_inv.1.1.1.1.1.1.1.1.1.1.1.0)
-
-pub bounds-ordinals-i : goal.bounds-ordinals-i
-bounds-ordinals-i c = omega (arith, c.loop-i-test.true)
-
 pub audit_listed-held-requires : goal.audit_listed-held-requires
 audit_listed-held-requires c =
     let g = c.loop-i.invariant in
@@ -33,13 +21,7 @@ audit_listed-held-requires c =
     }
 
 pub overflow_add-at : goal.overflow_add-at
-overflow_add-at c = omega (arith, rows-room _ _ _ _ _ _ _ _ _ c.requires.lists_lent.counted _ _ c.requires.lists_lent.shared _ _ _ _ _ c.loop-i.invariant c.loop-i-test.true, c.requires.lists_lent.rows-lent, c.type_inv.0)
-
-pub overflow_add-i : goal.overflow_add-i
-overflow_add-i c = omega (arith, c.loop-i-test.true, c.type_inv.1.1.1.1.1.1.1.1.1.1.1.0)
-
-pub loop-i-smaller : goal.loop-i-smaller
-loop-i-smaller c = omega (arith, c.loop-i-test.true)
+overflow_add-at c = omega (arith, rows-room _ _ _ _ _ _ _ _ _ c.requires.lists_lent.counted _ _ c.requires.lists_lent.shared _ _ _ _ _ c.loop-i.invariant c.loop-i-test.true, c.requires.lists_lent.rows-lent)
 
 pub loop-i-preserved : goal.loop-i-preserved
 loop-i-preserved c = step _ _ _ _ _ _ _ _ _ c.requires.lists_lent.counted _ _ c.requires.lists_lent.shared _ _ _ _ _ c.loop-i.invariant c.loop-i-test.true _ _ _ _ c.audit_listed-held.ensures _ _ (omega arith) (omega arith)
