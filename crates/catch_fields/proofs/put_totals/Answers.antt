@@ -9,28 +9,23 @@ use Rattle.catch_fields.proofs.put_totals.Goals as goal
 
 pub put_decimal-b-requires : goal.put_decimal-b-requires
 put_decimal-b-requires c =
-    let k = c.in-Available.known_told-1-own in
-    omega (arith, decimal-room c.in-Available.t.placements (omega (arith, k)), decimal-room c.in-Available.t.singles (omega (arith, k)), decimal-room c.in-Available.t.multi (omega (arith, k)))
+    omega (arith, decimal-room c.in-Available.t.placements (omega arith), decimal-room c.in-Available.t.singles (omega arith), decimal-room c.in-Available.t.multi (omega arith))
 
 pub put_bytes-c-requires : goal.put_bytes-c-requires
 put_bytes-c-requires c =
-    let k = c.in-Available.known_told-1-own in
-    omega (arith, decimal-room c.in-Available.t.placements (omega (arith, k)), decimal-room c.in-Available.t.singles (omega (arith, k)), decimal-room c.in-Available.t.multi (omega (arith, k)))
+    omega (arith, decimal-room c.in-Available.t.placements (omega arith), decimal-room c.in-Available.t.singles (omega arith), decimal-room c.in-Available.t.multi (omega arith))
 
 pub put_decimal-d-requires : goal.put_decimal-d-requires
 put_decimal-d-requires c =
-    let k = c.in-Available.known_told-1-own in
-    omega (arith, decimal-room c.in-Available.t.placements (omega (arith, k)), decimal-room c.in-Available.t.singles (omega (arith, k)), decimal-room c.in-Available.t.multi (omega (arith, k)))
+    omega (arith, decimal-room c.in-Available.t.placements (omega arith), decimal-room c.in-Available.t.singles (omega arith), decimal-room c.in-Available.t.multi (omega arith))
 
 pub put_bytes-e-requires : goal.put_bytes-e-requires
 put_bytes-e-requires c =
-    let k = c.in-Available.known_told-1-own in
-    omega (arith, decimal-room c.in-Available.t.placements (omega (arith, k)), decimal-room c.in-Available.t.singles (omega (arith, k)), decimal-room c.in-Available.t.multi (omega (arith, k)))
+    omega (arith, decimal-room c.in-Available.t.placements (omega arith), decimal-room c.in-Available.t.singles (omega arith), decimal-room c.in-Available.t.multi (omega arith))
 
 pub put_decimal-requires : goal.put_decimal-requires
 put_decimal-requires c =
-    let k = c.in-Available.known_told-1-own in
-    omega (arith, decimal-room c.in-Available.t.placements (omega (arith, k)), decimal-room c.in-Available.t.singles (omega (arith, k)), decimal-room c.in-Available.t.multi (omega (arith, k)))
+    omega (arith, decimal-room c.in-Available.t.placements (omega arith), decimal-room c.in-Available.t.singles (omega arith), decimal-room c.in-Available.t.multi (omega arith))
 
 pub returns-in-Unavailable : goal.returns-in-Unavailable
 returns-in-Unavailable c = record { adds = rw c.in-Unavailable.is c.put_bytes.ensures; room = omega arith }
@@ -45,5 +40,4 @@ returns-in-Available c =
     (adds_both c.put_decimal-d.ensures
     (adds_both c.put_bytes-e.ensures
     (adds_both c.put_decimal.ensures (adds_none _ _))))))) in
-    let k = c.in-Available.known_told-1-own in
-    record { adds = added; room = omega (arith, decimal-room c.in-Available.t.placements (omega (arith, k)), decimal-room c.in-Available.t.singles (omega (arith, k)), decimal-room c.in-Available.t.multi (omega (arith, k))) }
+    record { adds = added; room = omega (arith, decimal-room c.in-Available.t.placements (omega arith), decimal-room c.in-Available.t.singles (omega arith), decimal-room c.in-Available.t.multi (omega arith)) }
