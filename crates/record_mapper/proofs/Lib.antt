@@ -1,2 +1,1 @@
 pub mod Entering
-pub mod Lent
