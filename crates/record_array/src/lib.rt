@@ -1,4 +1,4 @@
-// A read mapped with an index that is lent as an array of records by value. Who calls it needs no proof by hand.
+// A read mapped with an index that is lent as an array of records by value.
 #![tactic(auto)]
 
 ghost use Rattle.std.specs.Prelude.{◌≤◌, take};
