@@ -51,11 +51,11 @@ module _ (q offset : ℕ) (c : Catalogue) (lent : IndexLent) where
     after_same h p es [] = refl
     after_same h p es (f ∷ fs) =
         ap (λ z. after q offset c z (calls_of lent width (drop width es) fs)) (next_same h p f (take width es))
-        ∙ after_same _ (passes_alike h _ (next_alike offset ss way (supplied_places c) h (call h p f (take width es))) p) (drop width es) fs
+        ∙ after_same (tested_next offset ss way (supplied_places c) h (call h p f (take width es))) (passes_alike h _ (next_alike offset ss way (supplied_places c) h (call h p f (take width es))) p) (drop width es) fs
 
     pub answers_same : (h : Held) → Passes h → (es : List ℕ) (fs : List Fragment) → answers q offset c h (calls_of lent width es fs) ≡ tested_answers offset ss way (supplied_places c) h (calls_of lent width es fs)
     answers_same h p es [] = refl
     answers_same h p es (f ∷ fs) =
         ap₂ {C = List Answer} (λ a z. a ∷ answers q offset c z (calls_of lent width (drop width es) fs)) (answer_same h p f (take width es)) (next_same h p f (take width es))
         ∙ ap {B = List Answer} (λ rest. tested_answer offset ss way (supplied_places c) h (call h p f (take width es)) ∷ rest)
-        (answers_same _ (passes_alike h _ (next_alike offset ss way (supplied_places c) h (call h p f (take width es))) p) (drop width es) fs)
+        (answers_same (tested_next offset ss way (supplied_places c) h (call h p f (take width es))) (passes_alike h _ (next_alike offset ss way (supplied_places c) h (call h p f (take width es))) p) (drop width es) fs)

@@ -14,7 +14,7 @@ returns-then-not-lists_fit c =
     unfit a.offset (ranked_sequences a.bases.now a.ends.now a.ranked.now) (way_if a.indexed a.q) a.ranked.now (index_if a.indexed a.keys.now a.ranks.now a.positions.now) (held_of a.state a.placements.now a.singles.now a.multi.now) (fragment_lists a.ordinals.now a.counts.now (read_lists a.roles.now a.reads.now a.read_ends.now a.quality_marks.now a.qualities.now a.quality_ends.now)) a.rows.now a.entries.now (sym c.lists_fit.ensures ∙ c.if-not-lists_fit.true)
 
 pub overflow_mul-share : goal.overflow_mul-share
-overflow_mul-share c = omega (arith, c.share_of-share.ensures.2, c.type_inv.1.0)
+overflow_mul-share c = omega (arith, c.share_of-share.ensures.2)
 
 pub audit_list-after-requires : goal.audit_list-after-requires
 audit_list-after-requires c =
