@@ -18,8 +18,8 @@ returns-then-refusal-ne0 c =
 pub observe_ranked-requires : goal.observe_ranked-requires
 observe_ranked-requires c =
     let searchable : c.if-indexed.searchable ≡ (c.args.indexed && c.args.state.settings.remap) = elim c.if-indexed.branch [
-      then-indexed h ↦ h.searchable-is ∙ ap (λ b. b && c.args.state.settings.remap) (sym h.if-indexed.true)
-    | else-indexed h ↦ h.searchable-is ∙ h.if-indexed.false ∙ ap (λ b. b && c.args.state.settings.remap) (sym h.if-indexed.false)
+      | then-indexed h ↦ h.searchable-is ∙ ap (λ b. b && c.args.state.settings.remap) (sym h.if-indexed.true)
+      | else-indexed h ↦ h.searchable-is ∙ h.if-indexed.false ∙ ap (λ b. b && c.args.state.settings.remap) (sym h.if-indexed.false)
     ] in
     let a = c.args in
     ranked_lent a.offset [] a.indexed a.q a.ranked.now (held_of a.state a.placements.now a.singles.now a.multi.now) a.ordinal a.count (mate_of a.first_role a.first.now a.first_present a.first_qualities.now) (mate_of a.second_role a.second.now a.second_present a.second_qualities.now) a.entries.now _ (c.check_reads-checked.ensures a.first_role a.second_role) _ c.in-Passed.is a.bases.now a.ends.now a.keys.now a.ranks.now a.positions.now c.requires _ searchable
@@ -32,8 +32,8 @@ returns-in-Refused c =
 pub returns-in-Passed : goal.returns-in-Passed
 returns-in-Passed c =
     let searchable : c.if-indexed.searchable ≡ (c.args.indexed && c.args.state.settings.remap) = elim c.if-indexed.branch [
-      then-indexed h ↦ h.searchable-is ∙ ap (λ b. b && c.args.state.settings.remap) (sym h.if-indexed.true)
-    | else-indexed h ↦ h.searchable-is ∙ h.if-indexed.false ∙ ap (λ b. b && c.args.state.settings.remap) (sym h.if-indexed.false)
+      | then-indexed h ↦ h.searchable-is ∙ ap (λ b. b && c.args.state.settings.remap) (sym h.if-indexed.true)
+      | else-indexed h ↦ h.searchable-is ∙ h.if-indexed.false ∙ ap (λ b. b && c.args.state.settings.remap) (sym h.if-indexed.false)
     ] in
     let a = c.args in
     reads_observed a.offset _ a.indexed a.q a.ranked.now (held_of a.state a.placements.now a.singles.now a.multi.now) a.ordinal a.count (mate_of a.first_role a.first.now a.first_present a.first_qualities.now) (mate_of a.second_role a.second.now a.second_present a.second_qualities.now) a.entries.now _ (c.check_reads-checked.ensures a.first_role a.second_role) _ c.in-Passed.is (sym c.order_refusal-refusal.ensures ∙ omega arith) _ searchable _ _ c.observe_ranked.ensures
