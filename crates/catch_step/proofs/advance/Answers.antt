@@ -185,7 +185,7 @@ pub returns-else-code-eq2 : goal.returns-else-code-eq2
 returns-else-code-eq2 c =
     let a = c.args in
     let kept = c.requires.0 in
-    opening_step a.job (buffers_of a.identifiers.now a.identifier_ends.now a.bases.now a.base_ends.now a.marks.now a.ranked.now a.keys.now a.ranks.now a.positions.now a.placements.now a.singles.now a.multi.now) kept a.ended a.out.now a.at _ c.in-Supplying.is a.bytes.now (omega (arith, c.if-bytes-eq0.false)) c.«open».result _ _ _ _ c.«open».ensures (omega (arith, c.«open».auto.1.0)) (omega (arith, c.«open».auto.1.1.0)) (omega (arith, c.«open».auto.1.1.1.0)) (omega (arith, c.«open».auto.1.1.1.1.0)) _ c.opened_job.ensures
+    opening_step a.job (buffers_of a.identifiers.now a.identifier_ends.now a.bases.now a.base_ends.now a.marks.now a.ranked.now a.keys.now a.ranks.now a.positions.now a.placements.now a.singles.now a.multi.now) kept a.ended a.out.now a.at _ c.in-Supplying.is a.bytes.now (omega (arith, c.if-bytes-eq0.false)) c.open-opened.result _ _ _ _ c.open-opened.ensures (omega (arith, c.open-opened.auto.ranked)) (omega (arith, c.open-opened.auto.keys)) (omega (arith, c.open-opened.auto.ranks)) (omega (arith, c.open-opened.auto.positions)) _ c.opened_job.ensures
 
 pub returns-in-Running : goal.returns-in-Running
 returns-in-Running c =
