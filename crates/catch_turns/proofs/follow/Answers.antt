@@ -18,9 +18,10 @@ overflow_add-next g c =
     omega arith
 
 pub returns-then-at-le32768 : goal.returns-then-at-le32768
-returns-then-at-le32768 c =
-    let a = c.args in
-    turned_on a.buffer.now a.progress a.from a.end a.at a.ended c.requires.hand _ c.in-Went.is c.requires.went _ _ _ (omega arith) (kept_back refl refl refl)
+returns-then-at-le32768 g c =
+    let s = c in
+    let a = s.args in
+    turned_on a.buffer.now a.progress a.from a.end a.at a.ended s.requires.hand _ c.in-Went.is s.requires.went _ _ _ (omega arith) (kept_back refl refl refl)
 
 pub slice_bounds-written-end-in-Went : goal.slice_bounds-written-end-in-Went
 slice_bounds-written-end-in-Went g c = sym (length-take-le _ _ c.requires.written)
@@ -28,25 +29,29 @@ slice_bounds-written-end-in-Went g c = sym (length-take-le _ _ c.requires.writte
 pub slice_bounds-written-end-in-More : goal.slice_bounds-written-end-in-More
 slice_bounds-written-end-in-More g c = sym (length-take-le _ _ c.requires.written)
 
-pub returns-then-not-write_all : goal.returns-then-not-write_all
-returns-then-not-write_all c =
-    let a = c.args in
-    turned_off a.buffer.now a.progress a.from a.end a.at a.ended c.requires.hand c.in-More.is
+pub returns-then-not-written : goal.returns-then-not-written
+returns-then-not-written g c =
+    let s = c in
+    let a = s.args in
+    turned_off a.buffer.now a.progress a.from a.end a.at a.ended s.requires.hand c.in-More.is
 
 pub refill-filled-requires : goal.refill-filled-requires
 refill-filled-requires g c = (c.requires.hand, c.requires.room c.in-More.is)
 
 pub returns-in-Ended : goal.returns-in-Ended
-returns-in-Ended c =
-    let a = c.args in
-    turned_last a.buffer.now a.progress a.from a.end a.at a.ended c.requires.hand c.in-Ended.is
+returns-in-Ended g c =
+    let s = c in
+    let a = s.args in
+    turned_last a.buffer.now a.progress a.from a.end a.at a.ended s.requires.hand c.in-Ended.is
 
 pub returns-else-at-le32768 : goal.returns-else-at-le32768
-returns-else-at-le32768 c =
-    let a = c.args in
-    turned_on a.buffer.now a.progress a.from a.end a.at a.ended c.requires.hand _ c.in-Went.is c.requires.went _ _ _ (omega arith) (handed_on refl refl)
+returns-else-at-le32768 g c =
+    let s = c in
+    let a = s.args in
+    turned_on a.buffer.now a.progress a.from a.end a.at a.ended s.requires.hand _ c.in-Went.is s.requires.went _ _ _ (omega arith) (handed_on refl refl)
 
-pub returns-else-not-write_all : goal.returns-else-not-write_all
-returns-else-not-write_all c =
-    let a = c.args in
-    turned_more a.buffer.now a.progress a.from a.end a.at a.ended c.requires.hand c.in-More.is _ _ _ (omega (arith, c.refill-filled.auto)) c.refill-filled.ensures
+pub returns-else-not-written : goal.returns-else-not-written
+returns-else-not-written g c =
+    let s = c in
+    let a = s.args in
+    turned_more a.buffer.now a.progress a.from a.end a.at a.ended s.requires.hand c.in-More.is _ _ _ (omega (arith, c.refill-filled.auto)) c.refill-filled.ensures
