@@ -50,6 +50,7 @@ module _ {A : Type 0} (check : A → ℕ) where
   all_pass (x ∷ xs) h = both_pass (check x) (first_refusal check xs) (h x (inl refl)) (all_pass xs (λ y m. h y (inr m)))
 
   each_passes : (xs : List A) → first_refusal check xs ≡ 0 → (x : A) → x ∈ xs → check x ≡ 0
+  each_passes [] e x x4 = elim x4 [ ]
   each_passes (y ∷ ys) e x (inl m) = rw m (none_first (check y) (first_refusal check ys) e)
   each_passes (y ∷ ys) e x (inr m) = each_passes ys (none_second (check y) (first_refusal check ys) e) x m
 

@@ -43,6 +43,8 @@ shown_few true n (inr (inl e)) = omega arith
 shown_few true n (inr (inr (inl e))) = omega arith
 shown_few true n (inr (inr (inr (inl e)))) = omega arith
 shown_few true n (inr (inr (inr (inr (inl e))))) = omega arith
+shown_few false n (inr x'') = elim x'' [ ]
+shown_few true n (inr (inr (inr (inr (inr x7))))) = elim x7 [ ]
 shown_few false n (inl e) = omega arith
 
 module _ (offset : ℕ) (s : Settings) (ss : List (List ℕ)) (r : MateRead) where
@@ -90,10 +92,12 @@ module _ (q offset : ℕ) (c : Catalogue) where
   -- what holds of every read that is observed under the settings holds of the history
   pub history_all : (s : Settings) (P : Booked → Type 0) → ((r : MateRead) → P (mate_booked offset s (mapped_sequences c) r))
       → (h : Held) → h.state.settings ≡ s → (xs : List Call) (b : Booked) → b ∈ history q offset c h xs → P b
+  history_all s P all h e [] b m = elim m [ ]
   history_all s P all h e (x ∷ xs) b m =
       split (history_all s P all (next q offset c h x) (settings_stay h x ∙ e) xs b) (append-∈ b (books q offset c h x) (history q offset c (next q offset c h x) xs) m)
     where
       here : (n : ℕ) → b ∈ if_passed n (fragment_booked offset c h x.fragment) [] → P b
+      here (suc _) i = elim i [ ]
       here zero i =
           let r = map-∈ (mate_booked offset h.state.settings (mapped_sequences c)) b x.fragment.reads i in
           subst P (sym r.2) (subst (λ (u : Settings). P (mate_booked offset u (mapped_sequences c) r.0)) (sym e) (all r.0))

@@ -45,6 +45,8 @@ use Rattle.audit_theorems.proofs.Running.{after_books, after_countable}
 -- ---- roles, states, statuses
 
 shown_roles : (mode : AuditInputMode) (role : ℕ) → role ∈ roles_of mode → role < 3
+shown_roles modes.SingleEnd role (inr x'') = elim x'' [ ]
+shown_roles modes.PairedEnd role (inr (inr x4)) = elim x4 [ ]
 shown_roles modes.SingleEnd role (inl e) = omega arith
 shown_roles modes.PairedEnd role (inl e) = omega arith
 shown_roles modes.PairedEnd role (inr (inl e)) = omega arith
