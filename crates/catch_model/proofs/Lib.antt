@@ -1,4 +1,0 @@
-pub mod Shrinking
-pub mod Steps
-pub mod Sizes
-pub mod Example

@@ -1,2 +1,0 @@
-// `catch` on paper; what it writes is said in specs/.
-#![tactic(auto)]

@@ -1,6 +1,0 @@
-pub mod Naming
-pub mod Listing
-pub mod Grouping
-pub mod Counting
-pub mod Targeting
-pub mod Bounding
