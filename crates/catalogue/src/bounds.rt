@@ -15,6 +15,7 @@ const MAX_IDENTIFIER: usize = 255;
 const MAX_BASES: usize = 16777216;
 
 // Whether no end falls or passes a bound.
+#[tactic(auto, using(lists::proofs::Cut::falls, lists::proofs::Cut::passes_most, lists::proofs::Cut::stays_within))]
 pub fn ends_within(ends: &[usize], most: usize) -> bool
     ensures { result ≡ ends_within 0 most ends.now }
 {
@@ -98,6 +99,7 @@ pub fn in_bounds(
 }
 
 // Whether a sequence is not empty and all capitals of ACGT.
+#[tactic(auto, using(crate::proofs::Checks::empty_sequence, crate::proofs::Checks::some_sequence))]
 pub fn proper_sequence(bases: &[u8]) -> bool
     ensures { result ≡ proper_sequence bases.now }
 {

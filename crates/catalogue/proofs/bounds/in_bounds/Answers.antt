@@ -1,6 +1,5 @@
 -- `catalogue::bounds::in_bounds` meets its contract, by the tests in their order.
 use mathlib.Core.Path.{sym, ap, ◌∙◌}
-use mathlib.Core.Bool.{true}
 use native.Mathlib.Omega.{arith}
 use Rattle.lists.specs.Cut.{ends_within}
 use Rattle.catalogue.specs.Catalogue.{lent_catalogue}

@@ -1,0 +1,14 @@
+pub mod Turned
+pub mod Booking
+pub mod Accepting
+pub mod Running
+pub mod Listing
+pub mod Sheets
+pub mod Placing
+pub mod Fragments
+pub mod Agreeing
+pub mod Made
+pub mod Promised
+pub mod Turns
+pub mod Demands
+pub mod Examples

@@ -1,0 +1,2 @@
+// Whole runs of both audits, held against the rules and against each other. There is no code.
+#![tactic(auto)]

@@ -1,0 +1,4 @@
+pub mod Shrinking
+pub mod Steps
+pub mod Sizes
+pub mod Example

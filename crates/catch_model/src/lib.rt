@@ -1,0 +1,2 @@
+// `catch` on paper; what it writes is said in specs/.
+#![tactic(auto)]

@@ -1,0 +1,6 @@
+pub mod Naming
+pub mod Listing
+pub mod Grouping
+pub mod Counting
+pub mod Targeting
+pub mod Bounding

@@ -1,0 +1,162 @@
+// Runs one call of `map` with the index that `build` gives. Behind the index the columns hold sevens. The entries hold 999
+// before the call.
+ghost use Rattle.std.specs.Prelude.{◌≡◌, length};
+
+use crate::answered::put_answer;
+use crate::records::map_records;
+use index_calls::build;
+use indexed_mapper::map::map;
+use test_cases::reading::at_most;
+
+// The numbers of a case that are no lengths of its lists, and whether the index is lent as records.
+#[derive(Clone, Copy)]
+pub struct Call {
+    pub records: bool,
+    pub q: usize,
+    pub limit: u64,
+    pub entries: usize,
+    pub keys: usize,
+    pub ranks: usize,
+    pub positions: usize,
+    pub column: usize,
+    pub place: usize,
+}
+
+// A column, with one number raised where it is the wrong one.
+fn lent_column(column: [u64; 256], own: usize, call: Call) -> [u64; 256]
+    ensures { 256 ≡ length result }
+{
+    let mut c = column;
+    let i = call.place;
+    if call.column == own {
+        if i < 256 {
+            c[i] = std::num::wrapping_add_u64(column[i], 1);
+        }
+    }
+    c
+}
+
+fn run_map(
+    rt: &impl Print,
+    entries: &mut [u64],
+    keys: &[u64],
+    ranks: &[u64],
+    positions: &[u64],
+    identifiers: &[u8],
+    identifier_ends: &[usize],
+    bases: &[u8],
+    base_ends: &[usize],
+    marks: &[u8],
+    read: &[u8],
+    call: Call,
+) {
+    if call.records {
+        let answer = map_records(
+            entries,
+            keys,
+            ranks,
+            positions,
+            identifiers,
+            identifier_ends,
+            bases,
+            base_ends,
+            marks,
+            call.q,
+            read,
+            call.limit,
+        );
+        return put_answer(rt, answer, entries);
+    }
+    let answer = map(
+        entries,
+        keys,
+        ranks,
+        positions,
+        identifiers,
+        identifier_ends,
+        bases,
+        base_ends,
+        marks,
+        call.q,
+        read,
+        call.limit,
+    );
+    put_answer(rt, answer, entries);
+}
+
+// Lends as much of each buffer as the case says.
+fn run_lent(
+    rt: &impl Print,
+    call: Call,
+    keys: &[u64],
+    ranks: &[u64],
+    positions: &[u64],
+    identifiers: &[u8],
+    identifier_ends: &[usize],
+    bases: &[u8],
+    base_ends: &[usize],
+    marks: &[u8],
+    read: &[u8],
+) {
+    let mut entries = [999u64; 256];
+    let e = at_most(call.entries, 256);
+    let k = at_most(call.keys, keys.len());
+    let r = at_most(call.ranks, ranks.len());
+    let p = at_most(call.positions, positions.len());
+    run_map(
+        rt,
+        &mut entries[0..e],
+        &keys[0..k],
+        &ranks[0..r],
+        &positions[0..p],
+        identifiers,
+        identifier_ends,
+        bases,
+        base_ends,
+        marks,
+        read,
+        call,
+    );
+}
+
+pub fn run_call(
+    rt: &impl Print,
+    call: Call,
+    identifiers: &[u8],
+    identifier_ends: &[usize],
+    bases: &[u8],
+    base_ends: &[usize],
+    marks: &[u8],
+    read: &[u8],
+) {
+    let mut keys = [7u64; 256];
+    let mut ranks = [7u64; 256];
+    let mut positions = [7u64; 256];
+    build(
+        &mut keys,
+        &mut ranks,
+        &mut positions,
+        identifiers,
+        identifier_ends,
+        bases,
+        base_ends,
+        marks,
+        call.q,
+    );
+    let ks = lent_column(keys, 1, call);
+    let rs = lent_column(ranks, 2, call);
+    let ps = lent_column(positions, 3, call);
+    run_lent(
+        rt,
+        call,
+        &ks,
+        &rs,
+        &ps,
+        identifiers,
+        identifier_ends,
+        bases,
+        base_ends,
+        marks,
+        read,
+    );
+}
