@@ -33,6 +33,7 @@ fn settings_refusal(settings: Settings, offset: u8) -> u64
 }
 
 // Whether there are as many counters of each kind as targets.
+#[tactic(auto, using(crate::proofs::Opening::placements_other, crate::proofs::Opening::singles_other, crate::proofs::Opening::by_multi))]
 fn counters_right(placements: &[u64], singles: &[u64], multi: &[u64], targets: usize) -> bool
     ensures { result ≡ counters_for targets (lent_counters placements.now singles.now multi.now) }
 {

@@ -50,6 +50,7 @@ fn validate_fragment_roles(
 }
 
 // 12 and 13, or 0.
+#[tactic(auto, using(crate::proofs::Roles::twelve, crate::proofs::Roles::thirteen, crate::proofs::Roles::in_place))]
 pub fn order_refusal(
     last: LastOrdinal,
     ordinal: u64,

@@ -16,6 +16,7 @@ use map_answers::bounds::{length_right, limit_right};
 use map_search::search;
 
 // Tests a read and a limit: refusals 7, 8 and 9, or 0.
+#[tactic(auto, using(crate::proofs::Mapping::read_long, crate::proofs::Mapping::read_improper, crate::proofs::Mapping::limit_out, crate::proofs::Mapping::read_accepted))]
 pub fn check_read(read: &[u8], limit: u64) -> u64
     ensures { result ≡ read_refusal read.now limit }
 {

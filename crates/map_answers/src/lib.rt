@@ -22,6 +22,7 @@ pub fn bound_of(limit: u64, entries: usize) -> usize
 }
 
 // The answer by the matches seen under a bound. Where there are more, the entries are set to zero.
+#[tactic(auto, using(crate::proofs::Concluding::conclude_few, crate::proofs::Concluding::conclude_short, crate::proofs::Concluding::conclude_past))]
 pub fn conclude(entries: &mut [u64], limit: u64, bound: usize, work: MappingWork) -> MapAnswer
     ensures { Concluded limit bound work result entries.old entries.new }
 {

@@ -21,9 +21,6 @@ returns-then-posting_rank-rank c = λ e. clash e refl
 pub differs_at-requires : goal.differs_at-requires
 differs_at-requires c = c.requires.laid
 
-pub returns-then-not-differs_at : goal.returns-then-not-differs_at
-returns-then-not-differs_at c = λ e. clash e refl
-
 pub posting_position-position-requires : goal.posting_position-position-requires
 posting_position-position-requires c = omega (arith, c.if-cursor-i.false, c.requires.end_in_bounds.1)
 
@@ -34,6 +31,6 @@ returns c =
       inside = omega (arith, c.if-cursor-i.false);
       early = omega (arith, c.if-limit-start.false);
       ranked = omega (arith, c.if-posting_rank-rank.false, c.posting_rank.ensures);
-      differs = c.differs_at.ensures c.if-not-differs_at.false;
+      differs = grind arith;
       room = ap (fits a.sequence.now (length a.read.now) a.cursor.offset) (sym c.posting_position-position.ensures) ∙ sym c.has_room.ensures ∙ e;
     }
