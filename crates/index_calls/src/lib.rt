@@ -29,7 +29,6 @@ fn accepted_build(n: usize) -> Built
 }
 
 // Builds the index of ranked sequences where the columns have room for it: refusal 5 where they have not.
-#[tactic(auto, using(crate::proofs::Building::no_room, crate::proofs::Building::with_room))]
 fn build_ranked(
     keys: &mut [u64],
     ranks: &mut [u64],
