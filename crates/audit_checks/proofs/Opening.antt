@@ -6,8 +6,8 @@ use Prim.Native.Nat.{ℕ, ◌-◌, ◌≤◌, ◌<◌}
 use native.Mathlib.Omega.{arith}
 use lib.ListN.{length, take}
 use lib.Dec.{eqb}
-use borrow.Author.Tests.{lt-leb, le-leb, eq-eqb, ne_eqb, eqb-true, not-true, not-false}
-use Rattle.lists.proofs.Cases.{by_test, and-true}
+use borrow.Author.Tests.{lt-leb, le-leb, eq-eqb, ne_eqb, not-true, not-false}
+use Rattle.lists.proofs.Cases.{by_test}
 use Rattle.promises.specs.Refusal.{unless, ◌or_else◌, outcome}
 use Rattle.promises.proofs.Refusing.{stands, grouped, outcome_refused}
 use Rattle.bases.specs.Eligibility.{last_quality}

@@ -1,5 +1,5 @@
 -- The checks of an opening, step by step (REFERENCE.md, "Opening").
-use Rattle.std.specs.Prelude.{◌≡◌, Bool, true, not, ◌&&◌, ◌||◌, List, ℕ, ◌≤◌, length, eqb}
+use Rattle.std.specs.Prelude.{◌≡◌, Bool, not, ◌||◌, List, ℕ, ◌≤◌, length}
 use Rattle.promises.specs.Refusal.{unless, ◌or_else◌, outcome}
 use Rattle.catalogue.specs.Catalogue.{Catalogue, mapped, max_targets}
 use Rattle.catalogue.specs.Ranking.{ranking_outcome, RanksIn}

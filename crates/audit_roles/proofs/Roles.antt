@@ -7,7 +7,6 @@ use borrow.Author.Tests.{ne_eqb, eq-eqb}
 use Rattle.audit_model.specs.declared.settings.AuditInputMode.{AuditInputMode}
 use Rattle.audit_model.specs.declared.settings.AuditInputMode.TheVariants as modes
 use Rattle.audit_model.specs.declared.settings.LastOrdinal.{LastOrdinal}
-use Rattle.audit_model.specs.declared.settings.LastOrdinal.TheVariants as ordinals
 use Rattle.audit_model.specs.Fragment.{in_order}
 use Rattle.audit_roles.specs.Order.{roles_fit, order_refusal}
 
