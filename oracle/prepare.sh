@@ -9,7 +9,7 @@ missing() {
 prepare_catch() {
     [ -z "${CATCH:-}" ] || return 0
     echo "oracle: proving and building catch"
-    rt check catch >"$here/target/catch.log" 2>&1 || {
+    (cd crates/catch && rt run) </dev/null >"$here/target/catch.log" 2>&1 || {
         tail -n 20 "$here/target/catch.log" | cut -c 1-400 >&2
         missing "catch is not built; see oracle/target/catch.log"
     }
@@ -30,7 +30,7 @@ done
 mkdir -p "$here/target"
 echo "oracle: proving and building the libraries"
 for library in jekaumeo jekaumeo_audit; do
-    rt staticlib "$library" >"$here/target/$library.log" 2>&1 || {
+    (cd "crates/$library" && rt lib) >"$here/target/$library.log" 2>&1 || {
         tail -n 20 "$here/target/$library.log" | cut -c 1-400 >&2
         missing "$library is not built; see oracle/target/$library.log"
     }

@@ -1,5 +1,5 @@
 /* Maps two reads to one target: ACG has four groups, AAA none.
-   rt staticlib jekaumeo && cc crates/jekaumeo/example.c target/staticlib/libjekaumeo.a -o target/example && target/example */
+   (cd crates/jekaumeo && rt lib) && cc crates/jekaumeo/example.c crates/jekaumeo/out/libjekaumeo.a -o example && ./example */
 #include "jekaumeo.h"
 #include <stdio.h>
 

@@ -1,7 +1,7 @@
 /* Audits a pair over one target of 20 bases, and prints its sheet: R1 lies at 0 on '+', R2 at 4 on '-'.
-   rt staticlib jekaumeo && rt staticlib jekaumeo_audit &&
-   cc -Icrates/jekaumeo crates/jekaumeo_audit/example.c target/staticlib/libjekaumeo_audit.a target/staticlib/libjekaumeo.a \
-      -o target/audit && target/audit */
+   (cd crates/jekaumeo && rt lib) && (cd crates/jekaumeo_audit && rt lib) &&
+   cc -Icrates/jekaumeo crates/jekaumeo_audit/example.c crates/jekaumeo_audit/out/libjekaumeo_audit.a crates/jekaumeo/out/libjekaumeo.a \
+      -o audit && ./audit */
 #include "jekaumeo.h"
 #include <stdio.h>
 

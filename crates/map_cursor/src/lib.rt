@@ -79,7 +79,7 @@ pub fn advance(
     step.candidate
 }
 
-// The same by value: who calls it needs no proof by hand.
+// The same by value.
 pub fn advanced(
     cursor: OrientationCursor,
     work: MappingWork,

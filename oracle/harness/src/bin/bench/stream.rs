@@ -50,7 +50,7 @@ pub fn run(rng: &mut Rng) -> bool {
     println!("stream: {n} targets, {bases} bases, {reads} reads, {} bytes, limit {limit}", job.len());
 
     let named = env::var_os("CATCH").filter(|name| !name.is_empty());
-    let program = named.unwrap_or_else(|| "target/bin/catch".into());
+    let program = named.unwrap_or_else(|| "crates/catch/out/catch".into());
     let mut unitigs = theirs::unitigs(&c).expect("a right catalogue");
     let (mut a, mut b) = (Vec::new(), Vec::new());
     let mut written = Vec::new();
