@@ -70,9 +70,9 @@ module _ (q : ℕ) (c : Catalogue) (ks rs os read : List ℕ) (limit : ℕ) (ans
   unfolding ExportsMap
   map_short h = rw (lt-leb 8 (length answer) h) (record { number = refl; numbers = refl; entries = refl })
 
-  pub map-room : 8 ≤ length answer → (m : MapAnswer) (buffer' : List ℕ) → MapsTo q c ks rs os read limit m buffer buffer' → (r : ℕ) (answer' : List ℕ) → Put row_numbers (answer_of m) r answer answer' → ExportsMap q c ks rs os read limit r answer buffer answer' buffer'
+  pub map_room : 8 ≤ length answer → (m : MapAnswer) (buffer' : List ℕ) → MapsTo q c ks rs os read limit m buffer buffer' → (r : ℕ) (answer' : List ℕ) → Put row_numbers (answer_of m) r answer answer' → ExportsMap q c ks rs os read limit r answer buffer answer' buffer'
   unfolding ExportsMap
-  map-room h m buffer' a r answer' w =
+  map_room h m buffer' a r answer' w =
       rw (le-leb 8 (length answer) h)
       (record {
         number = put_number row_numbers (map_refusal q c ks rs os read limit (entry_count buffer)) _ _ a.answer r answer answer' w;

@@ -5,6 +5,7 @@ use c_replies::put_built;
 use index_calls::build;
 
 // `index_calls::build`. The answer: refusal, postings.
+#[tactic(auto, using(crate::proofs::Answering::build_short, crate::proofs::Answering::build_room))]
 #[unsafe(no_mangle)]
 pub extern "C" fn jekaumeo_build(
     answer: &mut [u64],

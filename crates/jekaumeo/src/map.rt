@@ -5,6 +5,7 @@ use c_replies::put_answer;
 use indexed_mapper::map::map;
 
 // `indexed_mapper::map::map`. The answer: refusal, state, groups, lookups, hits, examined, comparisons, seen.
+#[tactic(auto, using(crate::proofs::Answering::map_short, crate::proofs::Answering::map_room))]
 #[unsafe(no_mangle)]
 pub extern "C" fn jekaumeo_map(
     answer: &mut [u64],

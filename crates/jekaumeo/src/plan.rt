@@ -5,6 +5,7 @@ use c_replies::put_plan;
 use index_plan::plan;
 
 // `index_plan::plan`. The answer: refusal, mapped targets, postings.
+#[tactic(auto, using(crate::proofs::Answering::plan_short, crate::proofs::Answering::plan_room))]
 #[unsafe(no_mangle)]
 pub extern "C" fn jekaumeo_plan(
     answer: &mut [u64],

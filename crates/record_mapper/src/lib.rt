@@ -10,6 +10,7 @@ use record_checks::{Checked, check_room};
 use record_copy::{SeedPosting, copy_records};
 
 // Maps a read with the first rows of the columns, unless a check refused. The columns stay.
+#[tactic(auto, using(crate::proofs::Entering::copied_refused, crate::proofs::Entering::copied_mapped))]
 fn map_copied(
     entries: &mut [u64],
     keys: &mut [u64],
