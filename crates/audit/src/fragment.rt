@@ -1,6 +1,6 @@
 // A fragment audited.
 ghost use Rattle.std.specs.Prelude.{true};
-ghost use Rattle.catalogue.specs.Catalogue.{lent_catalogue};
+ghost use Rattle.catalogue.specs.Catalogue.{catalogue_in};
 ghost use Rattle.audit_ledger.specs.Booking.{left_counters};
 ghost use Rattle.audit_model.specs.Settings.{audit_seed, audit_offset};
 ghost use Rattle.audit_model.specs.Opening.{none};
@@ -9,6 +9,8 @@ ghost use Rattle.audit_model.specs.Calls.{lent_held, lent_index, lent_mate, frag
 use audit_fragment::audit_fragment;
 use audit_model::calls::FragmentAudit;
 use audit_model::settings::{AUDIT_OFFSET, AUDIT_SEED, AuditState, MateRole};
+use catalogue::lent::LentCatalogue;
+use index_columns::LentIndex;
 
 // Audits a fragment by the index: refused, or its rows, with its groups in the entries and its reads booked.
 pub fn fragment(
@@ -16,14 +18,8 @@ pub fn fragment(
     placements: &mut [u64],
     singles: &mut [u64],
     multi: &mut [u64],
-    keys: &[u64],
-    ranks: &[u64],
-    positions: &[u64],
-    identifiers: &[u8],
-    identifier_ends: &[usize],
-    bases: &[u8],
-    base_ends: &[usize],
-    marks: &[u8],
+    index: LentIndex<'_>,
+    catalogue: LentCatalogue<'_>,
     first: &[u8],
     first_qualities: &[u8],
     second: &[u8],
@@ -36,7 +32,7 @@ pub fn fragment(
     count: usize,
     state: AuditState,
 ) -> FragmentAudit
-    ensures { Audits audit_seed audit_offset (lent_catalogue identifiers.now identifier_ends.now bases.now base_ends.now marks.now) (lent_index true keys.now ranks.now positions.now)
+    ensures { Audits audit_seed audit_offset (catalogue_in catalogue.entry) (lent_index true index.entry.keys.now index.entry.ranks.now index.entry.positions.now)
         (lent_held state placements.old singles.old multi.old)
         (fragment_of ordinal count (lent_mate first_role first.now first_present first_qualities.now) (lent_mate second_role second.now second_present second_qualities.now))
         entries.old result (left_counters placements.new singles.new multi.new) entries.new }
@@ -46,14 +42,8 @@ pub fn fragment(
         placements,
         singles,
         multi,
-        keys,
-        ranks,
-        positions,
-        identifiers,
-        identifier_ends,
-        bases,
-        base_ends,
-        marks,
+        index,
+        catalogue,
         first,
         first_qualities,
         second,
@@ -77,11 +67,7 @@ pub fn plain_fragment(
     placements: &mut [u64],
     singles: &mut [u64],
     multi: &mut [u64],
-    identifiers: &[u8],
-    identifier_ends: &[usize],
-    bases: &[u8],
-    base_ends: &[usize],
-    marks: &[u8],
+    catalogue: LentCatalogue<'_>,
     first: &[u8],
     first_qualities: &[u8],
     second: &[u8],
@@ -94,7 +80,7 @@ pub fn plain_fragment(
     count: usize,
     state: AuditState,
 ) -> FragmentAudit
-    ensures { Audits audit_seed audit_offset (lent_catalogue identifiers.now identifier_ends.now bases.now base_ends.now marks.now) none
+    ensures { Audits audit_seed audit_offset (catalogue_in catalogue.entry) none
         (lent_held state placements.old singles.old multi.old)
         (fragment_of ordinal count (lent_mate first_role first.now first_present first_qualities.now) (lent_mate second_role second.now second_present second_qualities.now))
         entries.old result (left_counters placements.new singles.new multi.new) entries.new }
@@ -106,14 +92,12 @@ pub fn plain_fragment(
         placements,
         singles,
         multi,
-        nothing,
-        nothing,
-        nothing,
-        identifiers,
-        identifier_ends,
-        bases,
-        base_ends,
-        marks,
+        LentIndex {
+            keys: nothing,
+            ranks: nothing,
+            positions: nothing,
+        },
+        catalogue,
         first,
         first_qualities,
         second,

@@ -1,14 +1,14 @@
 -- The reads of an answer as they are booked (REFERENCE.md, "Booking").
-use Rattle.std.specs.Prelude.{◌≡◌, Bool, true, false, List, [], ℕ}
+use Rattle.std.specs.Prelude.{◌≡◌, true, false, List, [], ℕ, Result, Ok, Err, Option, Some}
+use Rattle.promises.specs.declared.refusal.Refusal.{Refusal}
 use Rattle.map_answers.specs.Answer.{state_number}
 use Rattle.map_answers.specs.declared.answer.Mapping.{Mapping}
 use Rattle.audit_ledger.specs.Booking.{Counters, Books}
-use Rattle.audit_book_read.specs.declared.Posted.{Posted}
+use Rattle.audit_ledger.specs.declared.Ledger.{Ledger}
 use Rattle.audit_book_fragment.specs.declared.ReadTally.{ReadTally}
 use Rattle.audit_book_fragment.specs.Books.{TalliedRead, tallied_reads, posted_all, counters_posted, counters_small, books_small, FragmentPostable, BooksPosted}
-use Rattle.audit_model.specs.declared.calls.FragmentAnswer.{FragmentAnswer}
-use Rattle.audit_model.specs.declared.calls.FragmentAnswer.TheVariants as fragments
-use Rattle.audit_model.specs.declared.settings.LastOrdinal.TheVariants as ordinals
+use Rattle.audit_model.specs.declared.calls.FragmentRows.{FragmentRows}
+use Rattle.audit_model.specs.declared.calls.FragmentRows.TheVariants as fragments
 use Rattle.audit_model.specs.Settings.{Held, held_books}
 
 -- a read with the number of its role
@@ -16,31 +16,31 @@ abbrev pub tally_of : ℕ → Mapping → ReadTally
 tally_of role m = record { role = role; state = state_number m.state; groups = m.groups }
 
 -- the reads of an answer, with the numbers of their roles; their groups stand in parts of `width` numbers of the entries
-abbrev pub answer_reads : FragmentAnswer → ℕ → ℕ → ℕ → List ℕ → List TalliedRead
-answer_reads (fragments.Refused n) first second width entries = []
-answer_reads (fragments.Single m) first second width entries = tallied_reads (tally_of first m) (tally_of first m) false width entries
-answer_reads (fragments.Paired m) first second width entries = tallied_reads (tally_of first m.first) (tally_of second m.second) true width entries
+abbrev pub answer_reads : Result FragmentRows Refusal → ℕ → ℕ → ℕ → List ℕ → List TalliedRead
+answer_reads (Err n) first second width entries = []
+answer_reads (Ok (fragments.Single m)) first second width entries = tallied_reads (tally_of first m) (tally_of first m) false width entries
+answer_reads (Ok (fragments.Paired m)) first second width entries = tallied_reads (tally_of first m.first) (tally_of second m.second) true width entries
 
 -- their targets have counters
-abbrev pub AnswerPostable : FragmentAnswer → ℕ → ℕ → ℕ → List ℕ → Counters → Type 0
-AnswerPostable (fragments.Refused n) first second width entries k = Unit {0}
-AnswerPostable (fragments.Single m) first second width entries k = FragmentPostable (tally_of first m) (tally_of first m) false width entries k
-AnswerPostable (fragments.Paired m) first second width entries k = FragmentPostable (tally_of first m.first) (tally_of second m.second) true width entries k
+abbrev pub AnswerPostable : Result FragmentRows Refusal → ℕ → ℕ → ℕ → List ℕ → Counters → Type 0
+AnswerPostable (Err n) first second width entries k = Unit {0}
+AnswerPostable (Ok (fragments.Single m)) first second width entries k = FragmentPostable (tally_of first m) (tally_of first m) false width entries k
+AnswerPostable (Ok (fragments.Paired m)) first second width entries k = FragmentPostable (tally_of first m.first) (tally_of second m.second) true width entries k
 
--- whether the books have room for them, and if so the ledger with them; a refused answer has no reads, and there is room for none
-abbrev pub AnswerPosted : FragmentAnswer → ℕ → ℕ → ℕ → List ℕ → Books → Posted → Type 0
-AnswerPosted (fragments.Refused n) first second width entries books r = r.fits ≡ true
-AnswerPosted (fragments.Single m) first second width entries books r = BooksPosted (answer_reads (fragments.Single m) first second width entries) books r
-AnswerPosted (fragments.Paired m) first second width entries books r = BooksPosted (answer_reads (fragments.Paired m) first second width entries) books r
+-- the ledger with them, if the books have room for them; a refused answer has no reads, and there is room for none
+abbrev pub AnswerPosted : Result FragmentRows Refusal → ℕ → ℕ → ℕ → List ℕ → Books → Option Ledger → Type 0
+AnswerPosted (Err n) first second width entries books r = r ≡ Some books.ledger
+AnswerPosted (Ok (fragments.Single m)) first second width entries books r = BooksPosted (answer_reads (Ok (fragments.Single m)) first second width entries) books r
+AnswerPosted (Ok (fragments.Paired m)) first second width entries books r = BooksPosted (answer_reads (Ok (fragments.Paired m)) first second width entries) books r
 
 -- and room for them
-pub record CountersReady (answer : FragmentAnswer) (first second width : ℕ) (entries : List ℕ) (k : Counters) : Type 0 where
+pub record CountersReady (answer : Result FragmentRows Refusal) (first second width : ℕ) (entries : List ℕ) (k : Counters) : Type 0 where
   pub postable : AnswerPostable answer first second width entries k
   pub fits : counters_small (counters_posted (answer_reads answer first second width entries) k) ≡ true
 
 -- an accepted answer for whose reads the books have room
-pub record AnswerRaisable (answer : FragmentAnswer) (first second width : ℕ) (entries : List ℕ) (h : Held) : Type 0 where
-  pub accepted : (n : ℕ) → answer ≡ fragments.Refused n → ⊥
+pub record AnswerRaisable (answer : Result FragmentRows Refusal) (first second width : ℕ) (entries : List ℕ) (h : Held) : Type 0 where
+  pub accepted : (refusal : Refusal) → answer ≡ Err refusal → ⊥
   pub postable : AnswerPostable answer first second width entries h.counters
   pub fits : books_small (posted_all (answer_reads answer first second width entries) (held_books h)) ≡ true
 
@@ -48,6 +48,6 @@ pub record AnswerRaisable (answer : FragmentAnswer) (first second width : ℕ) (
 abbrev pub answer_booked : ℕ → List TalliedRead → Held → Held
 answer_booked ordinal xs h =
     record {
-      state = record { settings = h.state.settings; last = ordinals.Accepted ordinal; ledger = (posted_all xs (held_books h)).ledger };
+      state = record { settings = h.state.settings; last = Some ordinal; ledger = (posted_all xs (held_books h)).ledger };
       counters = (posted_all xs (held_books h)).counters;
     }

@@ -9,12 +9,12 @@ ghost use Rattle.audit_model.specs.Calls.{held_of, lent_held};
 ghost use Rattle.audit_book_answer.specs.Answers.{tally_of, answer_reads, answer_booked, AnswerPostable, AnswerPosted, CountersReady, AnswerRaisable};
 
 use audit_book_fragment::{ReadTally, post_fragment, raise_fragment};
-use audit_book_read::Posted;
 use audit_codes::role_number;
-use audit_ledger::Ledger;
-use audit_model::calls::FragmentAnswer;
-use audit_model::settings::{AuditState, LastOrdinal, MateRole};
+use audit_ledger::{Ledger, LentCounters};
+use audit_model::calls::FragmentRows;
+use audit_model::settings::{AuditState, MateRole};
 use map_answers::answer::{Mapping, state_number};
+use promises::refusal::Refusal;
 
 // A read as it is booked.
 fn tally_of(role: MateRole, mapping: Mapping) -> ReadTally
@@ -28,38 +28,32 @@ fn tally_of(role: MateRole, mapping: Mapping) -> ReadTally
     }
 }
 
-// Whether the books have room for the reads of an answer, each with its groups at the front of its `width` numbers of the entries, and the
-// ledger with them.
+// The ledger with the reads of an answer, each with its groups at the front of its `width` numbers of the entries, if the books have room
+// for them. A refused answer has no reads.
 pub fn post_answer(
     ledger: Ledger,
-    placements: &[u64],
-    singles: &[u64],
-    multi: &[u64],
+    counters: LentCounters<'_>,
     entries: &[u64],
-    answer: FragmentAnswer,
+    answer: Result<FragmentRows, Refusal>,
     first_role: MateRole,
     second_role: MateRole,
     width: usize,
-) -> Posted
-    requires { AnswerPostable answer (role_number first_role) (role_number second_role) width entries.now (counters_of placements.now singles.now multi.now) }
-    ensures { AnswerPosted answer (role_number first_role) (role_number second_role) width entries.now (books_of ledger placements.now singles.now multi.now) result }
+) -> Option<Ledger>
+    requires { AnswerPostable answer (role_number first_role) (role_number second_role) width entries.now (counters_of counters.placements.now counters.singles.now counters.multi.now) }
+    ensures { AnswerPosted answer (role_number first_role) (role_number second_role) width entries.now (books_of ledger counters.entry.placements.now counters.entry.singles.now counters.entry.multi.now) result }
 {
     match answer {
-        FragmentAnswer::Refused(n) => Posted { fits: true, ledger },
-        FragmentAnswer::Single(m) => {
+        Err(_) => Some(ledger),
+        Ok(FragmentRows::Single(m)) => {
             let one = tally_of(first_role, m);
-            post_fragment(
-                ledger, placements, singles, multi, entries, one, one, false, width,
-            )
+            post_fragment(ledger, counters, entries, one, one, false, width)
         }
-        FragmentAnswer::Paired(mates) => {
+        Ok(FragmentRows::Paired(mates)) => {
             let first = mates.first;
             let second = mates.second;
             post_fragment(
                 ledger,
-                placements,
-                singles,
-                multi,
+                counters,
                 entries,
                 tally_of(first_role, first),
                 tally_of(second_role, second),
@@ -76,7 +70,7 @@ fn raise_answer(
     singles: &mut [u64],
     multi: &mut [u64],
     entries: &[u64],
-    answer: FragmentAnswer,
+    answer: Result<FragmentRows, Refusal>,
     first_role: MateRole,
     second_role: MateRole,
     width: usize,
@@ -85,12 +79,12 @@ fn raise_answer(
     ensures { left_counters placements.new singles.new multi.new ≡ counters_posted (answer_reads answer (role_number first_role) (role_number second_role) width entries.now) (lent_counters placements.old singles.old multi.old) }
 {
     match answer {
-        FragmentAnswer::Refused(n) => {}
-        FragmentAnswer::Single(m) => {
+        Err(_) => {}
+        Ok(FragmentRows::Single(m)) => {
             let one = tally_of(first_role, m);
             raise_fragment(placements, singles, multi, entries, one, one, false, width);
         }
-        FragmentAnswer::Paired(mates) => {
+        Ok(FragmentRows::Paired(mates)) => {
             let first = mates.first;
             let second = mates.second;
             raise_fragment(
@@ -114,7 +108,7 @@ pub fn book_answer(
     multi: &mut [u64],
     entries: &[u64],
     state: AuditState,
-    answer: FragmentAnswer,
+    answer: Result<FragmentRows, Refusal>,
     ordinal: u64,
     first_role: MateRole,
     second_role: MateRole,
@@ -124,18 +118,20 @@ pub fn book_answer(
     ensures { held_of result placements.new singles.new multi.new ≡ answer_booked ordinal (answer_reads answer (role_number first_role) (role_number second_role) width entries.now) (lent_held state placements.old singles.old multi.old) }
 {
     let settings = state.settings;
-    let posted = post_answer(
+    let ledger = post_answer(
         state.ledger,
-        placements,
-        singles,
-        multi,
+        LentCounters {
+            placements,
+            singles,
+            multi,
+        },
         entries,
         answer,
         first_role,
         second_role,
         width,
-    );
-    let ledger = posted.ledger;
+    )
+    .unwrap();
     raise_answer(
         placements,
         singles,
@@ -148,7 +144,7 @@ pub fn book_answer(
     );
     AuditState {
         settings,
-        last: LastOrdinal::Accepted(ordinal),
+        last: Some(ordinal),
         ledger,
     }
 }

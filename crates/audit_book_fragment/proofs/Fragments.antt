@@ -1,22 +1,35 @@
 -- The reads of a fragment: what they need, and what they leave.
-use mathlib.Core.Path.{◌≡◌, sym, ap, ◌∙◌}
-use mathlib.Core.Bool.{Bool, true, false, not}
+use mathlib.Core.Path.{◌≡◌, refl, sym, ◌∙◌}
+use mathlib.Core.Bool.{Bool, true, false, cond}
 use mathlib.Core.List.{List}
-use Prim.Native.Nat.{ℕ, ◌*◌, ◌<◌, ◌≤◌}
-use native.Mathlib.Omega.{arith}
-use lib.ListN.{length, get_or, drop}
-use borrow.Author.Tests.{not-true, not-false}
+use Prim.Native.Nat.{ℕ}
+use lib.ListN.{drop}
 use Rattle.lists.proofs.Cases.{by_test, clash}
 use Rattle.audit_ledger.specs.Booking.{Counters, Books}
 use Rattle.audit_ledger.specs.declared.Ledger.{Ledger}
-use Rattle.audit_counters.specs.Targets.{targets_in, max_groups}
+use Rattle.audit_counters.specs.Targets.{targets_in}
 use Rattle.audit_book_read.specs.declared.Added.{Added}
-use Rattle.audit_book_read.specs.declared.Posted.{Posted}
+use Rattle.std.specs.Prelude.{Option, Some, None}
+use Rattle.std.specs.Bool.{then_some}
 use Rattle.audit_book_read.specs.Posting.{added_to, ledger_raised, ledger_small, LedgerPosted}
 use Rattle.audit_book_read.proofs.Room.{ledger_before}
 use Rattle.audit_book_fragment.specs.declared.ReadTally.{ReadTally}
-use Rattle.audit_book_fragment.specs.Books.{TalliedRead, tallied_reads, posted_all, counters_raised, counters_posted, counters_small, books_small, CountersRaisable, CountersFittable, FragmentPostable, FragmentRaisable, BooksPosted}
-use Rattle.audit_book_fragment.proofs.Raises.{counters_before, counters_as_many}
+use Rattle.audit_book_fragment.specs.Books.{TalliedRead, tallied_reads, posted_all, counters_raised, counters_posted, counters_small, books_small, CountersRaisable, FragmentRaisable, BooksPosted}
+use Rattle.audit_book_fragment.proofs.Raises.{counters_before}
+
+-- ---- a ledger that is told, or not
+
+none_told : (b : Bool) (l : Ledger) → None ≡ cond b (Some l) None → b ≡ false
+none_told true l e = cc
+none_told false l e = refl
+
+some_told : (b : Bool) (x l : Ledger) → Some x ≡ cond b (Some l) None → (b ≡ true) × (x ≡ l)
+some_told true x l e = (refl, (cc))
+some_told false x l e = cc
+
+if_small : (r : Bool) (l : Ledger) → then_some r l ≡ cond r (Some l) None
+if_small true l = refl
+if_small false l = refl
 
 module _ (first second : ReadTally) (two : Bool) (width : ℕ) (entries : List ℕ) (k : Counters) where
   abbrev ts : List ℕ
@@ -38,44 +51,9 @@ module _ (first second : ReadTally) (two : Bool) (width : ℕ) (entries : List �
   pub first_raisable : FragmentRaisable first second two width entries k → CountersRaisable first.groups entries k
   first_raisable p = record { counters = p.postable.counters; targeted = p.postable.first_postable.targeted; fits = first_small p.fits }
 
-  module _ (k₁ : Counters) (e : k₁ ≡ counters_raised ts k) where
-    pub one_raised : two ≡ false → k₁ ≡ counters_posted xs k
-    one_raised f = rw f e
-
-    module _ (t : two ≡ true) (behind : List ℕ) (q : behind ≡ drop width entries) where
-      pub second_raisable : (n : ℕ) → n ≡ second.groups → FragmentRaisable first second two width entries k → CountersRaisable n behind k₁
-      second_raisable n g p =
-          let o = p.postable.second_postable t in
-          let c = counters_as_many (length k.placements) ts k p.postable.counters in
-          rw (e, q, g)
-          (record {
-            counters = rw c.each.placements c;
-            targeted = rw c.each.placements o.targeted;
-            fits = rw t at p.fits;
-          })
-
-      pub two_raised : (k₂ : Counters) → k₂ ≡ counters_raised (targets_in second.groups behind) k₁ → k₂ ≡ counters_posted xs k
-      two_raised k₂ h = rw (t, h, e, q)
-
-  -- ---- what is tested of them
-
-  module _ (p : FragmentPostable first second two width entries k) where
-    pub groups_fittable : (n : ℕ) (behind : List ℕ) → 4 * n ≤ length behind → ((i : ℕ) → i < n → get_or behind (4 * i) 0 < length k.placements) → n ≤ max_groups → CountersFittable first.groups entries n behind k
-    groups_fittable n behind room inside few =
-        record {
-          counters = p.counters;
-          first_targeted = p.first_postable.targeted;
-          second_targeted = record { room = room; inside = inside };
-          few = (p.first_postable.tallied.groups, few);
-        }
-
-    -- of one read the second part holds nothing
-    pub none_fittable : (behind : List ℕ) → CountersFittable first.groups entries 0 behind k
-    none_fittable behind = groups_fittable 0 behind (omega arith) (λ i h. absurd (omega arith)) (omega arith)
-
   -- ---- what is answered
 
-  module _ (l : Ledger) (a : Added) (ae : a ≡ added_to ts) (x : Posted) (xe : LedgerPosted first.role first.state a l x) where
+  module _ (l : Ledger) (a : Added) (ae : a ≡ added_to ts) (x : Option Ledger) (xe : LedgerPosted first.role first.state a l x) where
     abbrev books : Books
     books = record { ledger = l; counters = k }
 
@@ -85,14 +63,12 @@ module _ (first second : ReadTally) (two : Bool) (width : ℕ) (entries : List �
     abbrev l₂ : Ledger
     l₂ = ledger_raised second.role second.state (added_to (targets_in second.groups (drop width entries))) l₁
 
-    small₁ : x.fits ≡ ledger_small l₁
-    small₁ = xe.fits ∙ ap (λ b. ledger_small (ledger_raised first.role first.state b l)) ae
+    told₁ : x ≡ cond (ledger_small l₁) (Some l₁) None
+    told₁ = rw ae at xe
 
     -- the first read is one too many
-    pub first_full : not x.fits ≡ true → BooksPosted xs books x
-    first_full h =
-        let f = not-true x.fits h in
-        record { fits = f ∙ sym (go two (sym small₁ ∙ f)); ledger = λ t. clash t f }
+    pub first_full : x ≡ None → BooksPosted xs books None
+    first_full h = rw (go two (none_told (ledger_small l₁) l₁ (sym h ∙ told₁)))
       where
         go : (b : Bool) → ledger_small l₁ ≡ false → books_small (posted_all (tallied_reads first second b width entries) books) ≡ false
         go true e =
@@ -100,31 +76,19 @@ module _ (first second : ReadTally) (two : Bool) (width : ℕ) (entries : List �
             rw s
         go false e = rw e
 
-    module _ (passed : not x.fits ≡ false) where
-      ledger₁ : x.ledger ≡ l₁
-      ledger₁ = xe.ledger (not-false x.fits passed) ∙ ap (λ b. ledger_raised first.role first.state b l) ae
+    module _ (one : Ledger) (is : x ≡ Some one) where
+      passed₁ : (ledger_small l₁ ≡ true) × (one ≡ l₁)
+      passed₁ = some_told (ledger_small l₁) one l₁ (sym is ∙ told₁)
 
-      -- it is the only one
-      pub one_posted : not two ≡ true → (r : Bool) → r ≡ counters_small (counters_raised ts k) → BooksPosted xs books (record { fits = r; ledger = x.ledger })
-      one_posted t r e = rw (not-true two t) (record { fits = rw (sym small₁ ∙ not-false x.fits passed) e; ledger = λ h. ledger₁ })
-
-      module _ (t : not two ≡ false) (behind : List ℕ) (q : behind ≡ drop width entries) (b : Added) (be : b ≡ added_to (targets_in second.groups behind)) (y : Posted) (ye : LedgerPosted second.role second.state b x.ledger y) where
-        second_is : ledger_raised second.role second.state b x.ledger ≡ l₂
-        second_is = rw (be, q, ledger₁)
-
-        small₂ : y.fits ≡ ledger_small l₂
-        small₂ = ye.fits ∙ ap ledger_small second_is
+      module _ (t : two ≡ true) (behind : List ℕ) (q : behind ≡ drop width entries) (b : Added) (be : b ≡ added_to (targets_in second.groups behind)) (y : Option Ledger) (ye : LedgerPosted second.role second.state b one y) where
+        told₂ : y ≡ cond (ledger_small l₂) (Some l₂) None
+        told₂ = rw (be, q, passed₁.1) at ye
 
         -- the second is one too many
-        pub second_full : not y.fits ≡ true → BooksPosted xs books y
-        second_full h =
-            let f = not-true y.fits h in
-            rw (not-false two t) (record { fits = rw (sym small₂ ∙ f) f; ledger = λ g. clash g f })
+        pub second_full : y ≡ None → BooksPosted xs books None
+        second_full h = rw (t, none_told (ledger_small l₂) l₂ (sym h ∙ told₂))
 
-        pub both_posted : not y.fits ≡ false → (r : Bool) → r ≡ counters_small (counters_raised (targets_in second.groups behind) (counters_raised ts k)) → BooksPosted xs books (record { fits = r; ledger = y.ledger })
-        both_posted h r e =
-            rw (not-false two t)
-            (record {
-              fits = rw (sym small₂ ∙ not-false y.fits h) (rw q at e);
-              ledger = λ s. ye.ledger (not-false y.fits h) ∙ second_is;
-            })
+        pub both_posted : (both : Ledger) → y ≡ Some both → (r : Bool) → r ≡ counters_small (counters_raised (targets_in second.groups behind) (counters_raised ts k)) → BooksPosted xs books (then_some r both)
+        both_posted both h r e =
+            let p = some_told (ledger_small l₂) both l₂ (sym h ∙ told₂) in
+            rw (t, p.0, p.1, ← q, ← e) (if_small r _)

@@ -2,18 +2,16 @@
 use mathlib.Core.Path.{◌≡◌, ◌∙◌}
 use mathlib.Core.Bool.{Bool, true, false, ◌&&◌}
 use mathlib.Core.List.{List}
-use Prim.Native.Nat.{ℕ, ◌≤◌}
-use native.Mathlib.Omega.{arith}
+use Prim.Native.Nat.{ℕ}
 use lib.ListN.{length}
 use Rattle.lists.specs.Raised.{raised_at}
 use Rattle.lists.proofs.Cases.{and-true}
-use Rattle.lists.proofs.Raised.{length-raised_at}
 use Rattle.audit_ledger.specs.Booking.{Counters, single_targets, counters_of}
-use Rattle.audit_counters.specs.Targets.{targets_in, counted_targets, small, Raisable, Fittable}
+use Rattle.audit_counters.specs.Targets.{targets_in, counted_targets, small, Raisable}
 use Rattle.audit_counters.proofs.Adding.{small-before}
 use Rattle.audit_book_read.specs.Posting.{several_runs}
-use Rattle.audit_book_fragment.specs.Books.{counters_raised, single_count, several_count, counters_small, CountersLent, CountersRaisable, CountersFittable}
-use Rattle.audit_book_fragment.proofs.Groups.{single_fewer, several_fewer, singles_are, several_are, fewer_targeted, fewer_small}
+use Rattle.audit_book_fragment.specs.Books.{counters_raised, single_count, several_count, counters_small, CountersRaisable}
+use Rattle.audit_book_fragment.proofs.Groups.{single_fewer, several_fewer, singles_are, several_are, fewer_targeted}
 
 -- ---- of 64 bits
 
@@ -43,27 +41,11 @@ counters_before ts k e =
       multi = small-before (several_runs ts) k.multi h.multi;
     })
 
--- raised counters are as many
-pub counters_as_many : (targets : ℕ) (ts : List ℕ) (k : Counters) → CountersLent targets k → CountersLent targets (counters_raised ts k)
-counters_as_many targets ts k h =
-    record {
-      few = h.few;
-      each =
-          record {
-            placements = length-raised_at ts k.placements ∙ h.each.placements;
-            singles = length-raised_at (single_targets ts) k.singles ∙ h.each.singles;
-            multi = length-raised_at (several_runs ts) k.multi ∙ h.each.multi;
-          };
-    }
-
 -- ---- raised by one read
 
 module _ (n : ℕ) (entries : List ℕ) (k : Counters) (p : CountersRaisable n entries k) where
   h : EachSmall (counters_raised (targets_in n entries) k)
   h = each_small (counters_raised (targets_in n entries) k) p.fits
-
-  pub placements_raisable : (r : ℕ) → r ≤ n → Raisable true r entries k.placements
-  placements_raisable r b = record { targeted = fewer_targeted n r entries (length k.placements) b p.targeted; fits = fewer_small r n entries k.placements b h.placements }
 
   pub singles_raisable : (r : ℕ) → r ≡ single_count n → Raisable true r entries k.singles
   singles_raisable r e =
@@ -88,14 +70,6 @@ raised_are n entries k s m f g p' s' m' p q t = rw (p, q, t, f, g, singles_are n
 -- ---- by two
 
 module _ (n : ℕ) (first : List ℕ) (m : ℕ) (second : List ℕ) (k : Counters) where
-  pub targets_fittable : CountersFittable n first m second k → (r q : ℕ) (ns : List ℕ) → r ≤ n → q ≤ m → length ns ≡ length k.placements → Fittable r first q second ns
-  targets_fittable p r q ns h b e =
-      record {
-        few = (omega (arith, p.counters.few), omega (arith, p.few.0), omega (arith, p.few.1));
-        first_targeted = rw e (fewer_targeted n r first (length k.placements) h p.first_targeted);
-        second_targeted = rw e (fewer_targeted m q second (length k.placements) b p.second_targeted);
-      }
-
   abbrev pub both : Counters
   both = counters_raised (targets_in m second) (counters_raised (targets_in n first) k)
 

@@ -1,10 +1,9 @@
 -- Reads posted: counters and ledger raised by the targets of their groups (REFERENCE.md, "Booking").
-use Rattle.std.specs.Prelude.{◌≡◌, Bool, true, cond, ◌&&◌, List, [], ◌∷◌, ℕ, ◌<◌, ◌≤◌, length, drop, eqb, ltb}
+use Rattle.std.specs.Prelude.{◌≡◌, Bool, true, cond, ◌&&◌, List, [], ◌∷◌, ℕ, ◌<◌, ◌≤◌, length, drop, eqb, ltb, Option, Some, None}
 use Rattle.lists.specs.Raised.{raised_at}
 use Rattle.audit_ledger.specs.Booking.{Counters, Books, single_targets, counters_of, CountersFor}
 use Rattle.audit_ledger.specs.declared.Ledger.{Ledger}
 use Rattle.audit_counters.specs.Targets.{targets_in, small, max_groups, Targeted}
-use Rattle.audit_book_read.specs.declared.Posted.{Posted}
 use Rattle.audit_book_read.specs.Posting.{several_runs, added_to, ledger_raised, ledger_small}
 use Rattle.audit_book_fragment.specs.declared.ReadTally.{ReadTally}
 
@@ -110,7 +109,6 @@ pub record FragmentRaisable (first second : ReadTally) (two : Bool) (width : ℕ
 
 -- ---- what is answered
 
--- whether the books have room for reads, and if so the ledger with them
-pub record BooksPosted (xs : List TalliedRead) (books : Books) (r : Posted) : Type 0 where
-  pub fits : r.fits ≡ books_small (posted_all xs books)
-  pub ledger : r.fits ≡ true → r.ledger ≡ (posted_all xs books).ledger
+-- the ledger with reads, if the books have room for them
+abbrev pub BooksPosted : List TalliedRead → Books → Option Ledger → Type 0
+BooksPosted xs books r = r ≡ cond (books_small (posted_all xs books)) (Some (posted_all xs books).ledger) None

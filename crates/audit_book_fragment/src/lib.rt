@@ -2,13 +2,13 @@
 #![tactic(auto)]
 
 ghost use Rattle.std.specs.Prelude.{◌≡◌, true};
-ghost use Rattle.audit_ledger.specs.Booking.{counters_of, lent_counters, left_counters};
+ghost use Rattle.audit_ledger.specs.Booking.{counters_of, counters_in, lent_counters, left_counters};
 ghost use Rattle.audit_counters.specs.Targets.{targets_in};
 ghost use Rattle.audit_book_fragment.specs.Books.{single_count, several_count, books_of, counters_raised, counters_posted, tallied_reads, counters_small, CountersRaisable, CountersFittable, FragmentPostable, FragmentRaisable, BooksPosted};
 
-use audit_book_read::{Posted, added_by, post_read};
+use audit_book_read::{added_by, post_read};
 use audit_counters::{raise_targets, targets_fit};
-use audit_ledger::Ledger;
+use audit_ledger::{Ledger, LentCounters};
 
 // A read as it is booked: the numbers of its role and of its state, and how many groups are listed.
 #[derive(Clone, Copy)]
@@ -22,20 +22,14 @@ pub struct ReadTally {
 fn single_groups(n: usize) -> usize
     ensures { result ≡ single_count n }
 {
-    if n == 1 {
-        return 1;
-    }
-    0
+    if n == 1 { 1 } else { 0 }
 }
 
 // How many groups raise the multi counts: those of a read with several.
 fn several_groups(n: usize) -> usize
     ensures { result ≡ several_count n }
 {
-    if 1 < n {
-        return n;
-    }
-    0
+    if 1 < n { n } else { 0 }
 }
 
 // Raises the counters by a read with n groups at the front of the entries.
@@ -56,97 +50,65 @@ fn raise_counters(
 
 // Whether the counters stay within 64 bits when they are raised by the groups of two reads.
 fn counters_fit(
-    placements: &[u64],
-    singles: &[u64],
-    multi: &[u64],
+    counters: LentCounters<'_>,
     first: &[u64],
     n: usize,
     second: &[u64],
     m: usize,
 ) -> bool
-    requires { CountersFittable n first.now m second.now (counters_of placements.now singles.now multi.now) }
-    ensures { result ≡ counters_small (counters_raised (targets_in m second.now) (counters_raised (targets_in n first.now) (lent_counters placements.now singles.now multi.now))) }
+    requires { CountersFittable n first.now m second.now (counters_of counters.placements.now counters.singles.now counters.multi.now) }
+    ensures { result ≡ counters_small (counters_raised (targets_in m second.now) (counters_raised (targets_in n first.now) (counters_in counters.entry))) }
 {
-    if !targets_fit(placements, first, n, second, m, true) {
-        return false;
-    }
-    if !targets_fit(
-        singles,
-        first,
-        single_groups(n),
-        second,
-        single_groups(m),
-        true,
-    ) {
-        return false;
-    }
-    targets_fit(
-        multi,
-        first,
-        several_groups(n),
-        second,
-        several_groups(m),
-        false,
-    )
+    targets_fit(counters.placements, first, n, second, m, true)
+        && targets_fit(
+            counters.singles,
+            first,
+            single_groups(n),
+            second,
+            single_groups(m),
+            true,
+        )
+        && targets_fit(
+            counters.multi,
+            first,
+            several_groups(n),
+            second,
+            several_groups(m),
+            false,
+        )
 }
 
-// Whether the books have room for one or two reads whose groups stand in the entries, those of the second `width` numbers behind those of
-// the first, and the ledger with them. Nothing is written.
+// The ledger with one or two reads whose groups stand in the entries, those of the second `width` numbers behind those of the first, if the
+// books have room for them. Nothing is written.
 pub fn post_fragment(
     ledger: Ledger,
-    placements: &[u64],
-    singles: &[u64],
-    multi: &[u64],
+    counters: LentCounters<'_>,
     entries: &[u64],
     first: ReadTally,
     second: ReadTally,
     two: bool,
     width: usize,
-) -> Posted
-    requires { FragmentPostable first second two width entries.now (counters_of placements.now singles.now multi.now) }
-    ensures { BooksPosted (tallied_reads first second two width entries.now) (books_of ledger placements.now singles.now multi.now) result }
+) -> Option<Ledger>
+    requires { FragmentPostable first second two width entries.now (counters_of counters.placements.now counters.singles.now counters.multi.now) }
+    ensures { BooksPosted (tallied_reads first second two width entries.now) (books_of ledger counters.entry.placements.now counters.entry.singles.now counters.entry.multi.now) result }
 {
     let one = post_read(
         ledger,
         first.role,
         first.state,
         added_by(entries, first.groups),
-    );
-    if !one.fits {
-        return one;
-    }
-    let first_ledger = one.ledger;
+    )?;
     let behind = &entries[width..];
     if !two {
-        let fits = counters_fit(placements, singles, multi, entries, first.groups, behind, 0);
-        return Posted {
-            fits,
-            ledger: first_ledger,
-        };
+        return counters_fit(counters, entries, first.groups, behind, 0).then_some(one);
     }
     let both = post_read(
-        first_ledger,
+        one,
         second.role,
         second.state,
         added_by(behind, second.groups),
-    );
-    if !both.fits {
-        return both;
-    }
-    let fits = counters_fit(
-        placements,
-        singles,
-        multi,
-        entries,
-        first.groups,
-        behind,
-        second.groups,
-    );
-    let second_ledger = both.ledger;
-    Posted {
-        fits,
-        ledger: second_ledger,
-    }
+    )?;
+    counters_fit(counters, entries, first.groups, behind, second.groups).then_some(both)
 }
 
 // Raises the counters by the reads of a fragment, for which the books have room.

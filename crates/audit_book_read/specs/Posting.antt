@@ -1,11 +1,10 @@
 -- A ledger raised by a read (REFERENCE.md, "Booking").
-use Rattle.std.specs.Prelude.{◌≡◌, Bool, true, cond, ◌||◌, ◌&&◌, List, [], ◌∷◌, ℕ, ◌+◌, length, eqb, ltb}
+use Rattle.std.specs.Prelude.{◌≡◌, Bool, cond, ◌||◌, ◌&&◌, List, [], ◌∷◌, ℕ, ◌+◌, length, eqb, ltb, Option, Some, None}
 use Rattle.lists.specs.Raised.{raised}
 use Rattle.audit_ledger.specs.Booking.{cell, single_targets}
 use Rattle.audit_ledger.specs.declared.Ledger.{Ledger}
 use Rattle.audit_counters.specs.Targets.{run_ends, small}
 use Rattle.audit_book_read.specs.declared.Added.{Added}
-use Rattle.audit_book_read.specs.declared.Posted.{Posted}
 
 -- the targets of a read with several groups, one of each run
 abbrev pub several_runs : List ℕ → List ℕ
@@ -31,7 +30,6 @@ ledger_raised role state a l =
 abbrev pub ledger_small : Ledger → Bool
 ledger_small l = small l.table && small l.reads && small (l.placements ∷ l.singles ∷ l.multi ∷ [])
 
--- whether a ledger has room for a read, and if so the ledger with it
-pub record LedgerPosted (role state : ℕ) (a : Added) (l : Ledger) (r : Posted) : Type 0 where
-  pub fits : r.fits ≡ ledger_small (ledger_raised role state a l)
-  pub ledger : r.fits ≡ true → r.ledger ≡ ledger_raised role state a l
+-- the ledger with a read, if it has room for it
+abbrev pub LedgerPosted : ℕ → ℕ → Added → Ledger → Option Ledger → Type 0
+LedgerPosted role state a l r = r ≡ cond (ledger_small (ledger_raised role state a l)) (Some (ledger_raised role state a l)) None

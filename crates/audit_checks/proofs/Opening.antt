@@ -1,26 +1,26 @@
 -- The refusals of an opening, in the order of the tests.
+use Rattle.std.specs.Prelude.{Result, Ok, Err}
+use Rattle.promises.specs.declared.refusal.Refusal.{Refusal}
+use Rattle.promises.specs.declared.refusal.Refusal.TheVariants as refusals
 use mathlib.Core.Path.{◌≡◌, refl, sym, ap, ◌∙◌}
 use mathlib.Core.Bool.{Bool, true, false, not, ◌&&◌, ◌||◌}
 use mathlib.Core.List.{List}
 use Prim.Native.Nat.{ℕ, ◌-◌, ◌≤◌, ◌<◌}
-use native.Mathlib.Omega.{arith}
 use lib.ListN.{length, take}
 use lib.Dec.{eqb}
-use borrow.Author.Tests.{lt-leb, le-leb, eq-eqb, ne_eqb, not-true, not-false}
+use borrow.Author.Tests.{lt-leb, le-leb, eq-eqb, ne_eqb}
 use Rattle.lists.proofs.Cases.{by_test}
-use Rattle.promises.specs.Refusal.{unless, ◌or_else◌, outcome}
-use Rattle.promises.proofs.Refusing.{stands, grouped, outcome_refused}
+use Rattle.promises.specs.Refusal.{refusal_number, unless, ◌or_else◌, outcome}
+use Rattle.promises.proofs.Refusing.{stands, grouped, outcome_refused, numbered}
 use Rattle.bases.specs.Eligibility.{last_quality}
 use Rattle.catalogue.specs.Catalogue.{Catalogue, mapped, in_bounds, catalogue_refusal, targets}
 use Rattle.catalogue.specs.Ranking.{ranking_outcome}
-use Rattle.catalogue.specs.declared.ranks.Ranking.{Ranking}
-use Rattle.catalogue.specs.declared.ranks.Ranking.TheVariants.{Refused, Ranked}
 use Rattle.catalogue.proofs.Mapped.{target_count}
 use Rattle.catalogue.proofs.Refusals.{refused_ranked}
 use Rattle.index_seeds.specs.Key.{SeedLength}
 use Rattle.index_model.specs.Index.{ranked_sequences, mapped_sequences, plan_refusal}
 use Rattle.index_plan.specs.Answers.{PlanRanked}
-use Rattle.index_plan.proofs.Planning.{no_refusal, ranked_mapped, number, not-zero}
+use Rattle.index_plan.proofs.Planning.{no_refusal, ranked_mapped, number}
 use Rattle.map_answers.specs.Bounds.{limit_right}
 use Rattle.audit_ledger.specs.Booking.{Counters, counters_for}
 use Rattle.audit_model.specs.declared.settings.Settings.{Settings}
@@ -96,40 +96,38 @@ module _ (q offset : ℕ) (c : Catalogue) (indexed : Bool) (ks rs os : List ℕ)
       ∙ ap (λ n. settings_refusal offset s or_else n) (by_marks c k (unless (not s.remap || index_right q c (index_if indexed ks rs os)) 6))
       ∙ ap (λ t. settings_refusal offset s or_else unless (counters_for (length c.marks) k) 2 or_else catalogue_refusal c or_else unless t 6) (sym tested_right)
 
-  -- a refusal by a number that is not 0
-  refused_by : (n : ℕ) → (n ≡ 0 → ⊥) → opening_refusal q offset c (index_if indexed ks rs os) s k ≡ n → (buffer : List ℕ) → OpeningRanked q offset c (index_if indexed ks rs os) s k (Refused n) buffer
-  refused_by n ne e buffer = record { answer = rw e (outcome_refused n (length (mapped c)) ne); ranks = λ j f. absurd (refused_ranked f) }
+  -- a refusal
+  refused_by : (e : Refusal) → opening_refusal q offset c (index_if indexed ks rs os) s k ≡ refusal_number e → (buffer : List ℕ) → OpeningRanked q offset c (index_if indexed ks rs os) s k (Err e) buffer
+  refused_by e told buffer = record { answer = rw told (outcome_refused (refusal_number e) (length (mapped c)) (numbered e)); ranks = λ j f. absurd (refused_ranked f) }
 
-  pub settings_refused : (n : ℕ) → n ≡ settings_refusal offset s → (n ≡ 0 → ⊥) → (buffer : List ℕ) → OpeningRanked q offset c (index_if indexed ks rs os) s k (Refused n) buffer
-  settings_refused n e ne buffer = refused_by n ne (in_order ∙ stands n (settings_refusal offset s) _ ne (sym e)) buffer
+  pub settings_refused : (e : Refusal) → refusal_number e ≡ settings_refusal offset s → (buffer : List ℕ) → OpeningRanked q offset c (index_if indexed ks rs os) s k (Err e) buffer
+  settings_refused e told buffer = refused_by e (in_order ∙ stands (refusal_number e) (settings_refusal offset s) _ (numbered e) (sym told)) buffer
 
   -- the settings are right
-  module _ (m : ℕ) (set : m ≡ settings_refusal offset s) (none : m ≡ 0) (b : Bool) (fit : b ≡ counters_for (length c.marks) k) where
-    pub counters_refused : {n : ℕ} → n ≡ 2 → not b ≡ true → (buffer : List ℕ) → OpeningRanked q offset c (index_if indexed ks rs os) s k (Refused n) buffer
-    counters_refused told e buffer = rw told (refused_by 2 (λ z. omega arith) (in_order ∙ rw (sym set ∙ none, sym fit ∙ not-true b e)) buffer)
+  module _ (set : 0 ≡ settings_refusal offset s) (b : Bool) (fit : b ≡ counters_for (length c.marks) k) where
+    pub counters_refused : b ≡ false → (buffer : List ℕ) → OpeningRanked q offset c (index_if indexed ks rs os) s k (Err refusals.Catalogue) buffer
+    counters_refused e buffer = refused_by refusals.Catalogue (in_order ∙ rw (← set, sym fit ∙ e)) buffer
 
     -- and the counters, and the catalogue is ranked
-    module _ (fitting : not b ≡ false) (seed : SeedLength q) (r : Ranking) (buffer : List ℕ) (p : PlanRanked q c r buffer) where
+    module _ (fitting : b ≡ true) (seed : SeedLength q) (r : Result ℕ Refusal) (buffer : List ℕ) (p : PlanRanked q c r buffer) where
       behind : opening_refusal q offset c (index_if indexed ks rs os) s k ≡ (plan_refusal q c or_else unless (index_fits (indexed && s.remap) q (mapped_sequences c) ks rs os) 6)
-      behind = in_order ∙ rw (sym set ∙ none, sym fit ∙ not-false b fitting, seeded q c seed)
+      behind = in_order ∙ rw (← set, sym fit ∙ fitting, seeded q c seed)
 
-      pub catalogue_refused : (n : ℕ) → r ≡ Refused n → OpeningRanked q offset c (index_if indexed ks rs os) s k r buffer
-      catalogue_refused n told =
-          let ne = not-zero q c r buffer p n told in
-          rw told (refused_by n ne (behind ∙ stands n (plan_refusal q c) _ ne (number q c r buffer p n told)) buffer)
+      pub catalogue_refused : (e : Refusal) → r ≡ Err e → OpeningRanked q offset c (index_if indexed ks rs os) s k (Err e) buffer
+      catalogue_refused e told = refused_by e (behind ∙ stands (refusal_number e) (plan_refusal q c) _ (numbered e) (number q c r buffer p e told)) buffer
 
-      module _ (j : ℕ) (told : r ≡ Ranked j) (t : Bool) (tested : t ≡ (indexed && s.remap)) (d : Bool) (found : d ≡ index_fits t q (ranked_sequences c.bases c.base_ends (take j buffer)) ks rs os) where
+      module _ (j : ℕ) (told : r ≡ Ok j) (t : Bool) (tested : t ≡ (indexed && s.remap)) (d : Bool) (found : d ≡ index_fits t q (ranked_sequences c.bases c.base_ends (take j buffer)) ks rs os) where
         at-index : opening_refusal q offset c (index_if indexed ks rs os) s k ≡ unless d 6
         at-index =
             behind
             ∙ rw (no_refusal q c r buffer p j told) (ap (λ x. unless x 6) (sym (found ∙ ap (λ ss. index_fits t q ss ks rs os) (ranked_mapped q c r buffer p j told) ∙ ap (λ x. index_fits x q (mapped_sequences c) ks rs os) tested)))
 
-        pub index_refused : {n : ℕ} → n ≡ 6 → not d ≡ true → OpeningRanked q offset c (index_if indexed ks rs os) s k (Refused n) buffer
-        index_refused six e = rw six (refused_by 6 (λ z. omega arith) (at-index ∙ ap (λ x. unless x 6) (not-true d e)) buffer)
+        pub index_refused : d ≡ false → OpeningRanked q offset c (index_if indexed ks rs os) s k (Err refusals.StaleIndex) buffer
+        index_refused e = refused_by refusals.StaleIndex (at-index ∙ ap (λ x. unless x 6) e) buffer
 
-        pub all_right : not d ≡ false → OpeningRanked q offset c (index_if indexed ks rs os) s k (Ranked j) buffer
+        pub all_right : d ≡ true → OpeningRanked q offset c (index_if indexed ks rs os) s k (Ok j) buffer
         all_right e =
             record {
-              answer = ap ranking_outcome (sym told) ∙ p.answer ∙ ap (λ n. outcome n (length (mapped c))) (no_refusal q c r buffer p j told ∙ sym (at-index ∙ ap (λ x. unless x 6) (not-false d e)));
+              answer = ap ranking_outcome (sym told) ∙ p.answer ∙ ap (λ n. outcome n (length (mapped c))) (no_refusal q c r buffer p j told ∙ sym (at-index ∙ ap (λ x. unless x 6) e));
               ranks = λ i g. p.ranks i (told ∙ g);
             }

@@ -1,9 +1,9 @@
 -- The checks of an opening, step by step (REFERENCE.md, "Opening").
-use Rattle.std.specs.Prelude.{◌≡◌, Bool, not, ◌||◌, List, ℕ, ◌≤◌, length}
+use Rattle.std.specs.Prelude.{◌≡◌, Bool, not, ◌||◌, List, ℕ, ◌≤◌, length, Result}
+use Rattle.promises.specs.declared.refusal.Refusal.{Refusal}
 use Rattle.promises.specs.Refusal.{unless, ◌or_else◌, outcome}
 use Rattle.catalogue.specs.Catalogue.{Catalogue, mapped, max_targets}
 use Rattle.catalogue.specs.Ranking.{ranking_outcome, RanksIn}
-use Rattle.catalogue.specs.declared.ranks.Ranking.{Ranking}
 use Rattle.index_seeds.specs.Key.{SeedLength}
 use Rattle.index_model.specs.Index.{index_of, columns_of}
 use Rattle.map_answers.specs.Bounds.{limit_right}
@@ -28,6 +28,6 @@ pub record Checkable (q offset : ℕ) (ranked : List ℕ) : Type 0 where
   pub room : length ranked ≡ max_targets
 
 -- refused, or ranked as a catalogue is
-pub record OpeningRanked (q offset : ℕ) (c : Catalogue) (lent : IndexLent) (s : Settings) (k : Counters) (r : Ranking) (buffer : List ℕ) : Type 0 where
+pub record OpeningRanked (q offset : ℕ) (c : Catalogue) (lent : IndexLent) (s : Settings) (k : Counters) (r : Result ℕ Refusal) (buffer : List ℕ) : Type 0 where
   pub answer : ranking_outcome r ≡ outcome (opening_refusal q offset c lent s k) (length (mapped c))
   pub ranks : RanksIn c r buffer

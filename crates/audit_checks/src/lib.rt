@@ -3,122 +3,90 @@
 
 ghost use Rattle.std.specs.Prelude.{◌≡◌, ◌≤◌};
 ghost use Rattle.bases.specs.Eligibility.{last_quality};
-ghost use Rattle.catalogue.specs.Catalogue.{lent_catalogue};
+ghost use Rattle.catalogue.specs.Catalogue.{catalogue_in};
 ghost use Rattle.index_seeds.specs.Key.{SeedLength};
-ghost use Rattle.index_model.specs.Index.{Lent, lent_sequences};
-ghost use Rattle.audit_ledger.specs.Booking.{counters_for, lent_counters};
+ghost use Rattle.index_model.specs.Index.{Lent, sequences_in};
+ghost use Rattle.audit_ledger.specs.Booking.{counters_for, counters_in};
 ghost use Rattle.audit_model.specs.Calls.{lent_index};
 ghost use Rattle.audit_checks.specs.Opens.{settings_refusal, index_fits, Checkable, OpeningRanked};
+ghost use Rattle.promises.specs.Refusal.{test_number};
 
+use audit_ledger::LentCounters;
 use audit_model::settings::Settings;
-use catalogue::ranks::Ranking;
+use catalogue::lent::LentCatalogue;
+use index_columns::LentIndex;
+use index_model::ranked::RankedTargets;
 use index_model::test::is_index;
 use index_plan::rank_checked;
 use map_answers::bounds::limit_right;
+use promises::refusal::Refusal;
 
-// Tests settings: 11 and 9, or 0.
-fn settings_refusal(settings: Settings, offset: u8) -> u64
+// Tests settings: 11 and 9, or none.
+fn check_settings(settings: Settings, offset: u8) -> Result<(), Refusal>
     requires { offset ≤ last_quality }
-    ensures { result ≡ settings_refusal offset settings }
+    ensures { test_number result ≡ settings_refusal offset settings }
 {
-    let high = 126 - offset < settings.floor;
-    let within = limit_right(settings.limit);
-    if high {
-        return 11;
+    if 126 - offset < settings.floor {
+        return Err(Refusal::QualityFloor);
     }
-    if !within {
-        return 9;
+    if !limit_right(settings.limit) {
+        return Err(Refusal::CandidateLimit);
     }
-    0
+    Ok(())
 }
 
 // Whether there are as many counters of each kind as targets.
 #[tactic(auto, using(crate::proofs::Opening::placements_other, crate::proofs::Opening::singles_other, crate::proofs::Opening::by_multi))]
-fn counters_right(placements: &[u64], singles: &[u64], multi: &[u64], targets: usize) -> bool
-    ensures { result ≡ counters_for targets (lent_counters placements.now singles.now multi.now) }
+fn counters_right(counters: LentCounters<'_>, targets: usize) -> bool
+    ensures { result ≡ counters_for targets (counters_in counters.entry) }
 {
-    if placements.len() != targets {
+    if counters.placements.len() != targets {
         return false;
     }
-    if singles.len() != targets {
+    if counters.singles.len() != targets {
         return false;
     }
-    multi.len() == targets
+    counters.multi.len() == targets
 }
 
 // Whether the columns are the index of the ranked sequences, where they are tested.
-fn index_fits(
-    tested: bool,
-    keys: &[u64],
-    ranks: &[u64],
-    positions: &[u64],
-    bases: &[u8],
-    ends: &[usize],
-    ranked: &[usize],
-    q: usize,
-) -> bool
-    requires { Lent bases.now ends.now ranked.now × SeedLength q }
-    ensures { result ≡ index_fits tested q (lent_sequences bases.now ends.now ranked.now) keys.now ranks.now positions.now }
+fn index_fits(tested: bool, index: LentIndex<'_>, targets: RankedTargets<'_>, q: usize) -> bool
+    requires { Lent targets.bases.now targets.ends.now targets.ranked.now × SeedLength q }
+    ensures { result ≡ index_fits tested q (sequences_in targets.entry) index.entry.keys.now index.entry.ranks.now index.entry.positions.now }
 {
     if !tested {
         return true;
     }
-    is_index(keys, ranks, positions, bases, ends, ranked, q)
+    is_index(index, targets, q)
 }
 
 // The checks of an opening: 11, 9, 2, 3, 4, and 6 with remap on where there is an index; else the targets ranked.
 pub fn check_opening(
     ranked: &mut [usize],
-    placements: &[u64],
-    singles: &[u64],
-    multi: &[u64],
-    keys: &[u64],
-    ranks: &[u64],
-    positions: &[u64],
-    identifiers: &[u8],
-    identifier_ends: &[usize],
-    bases: &[u8],
-    base_ends: &[usize],
-    marks: &[u8],
+    counters: LentCounters<'_>,
+    index: LentIndex<'_>,
+    catalogue: LentCatalogue<'_>,
     indexed: bool,
     q: usize,
     offset: u8,
     settings: Settings,
-) -> Ranking
+) -> Result<usize, Refusal>
     requires { Checkable q offset ranked.old }
-    ensures { OpeningRanked q offset (lent_catalogue identifiers.now identifier_ends.now bases.now base_ends.now marks.now) (lent_index indexed keys.now ranks.now positions.now) settings (lent_counters placements.now singles.now multi.now) result ranked.new }
+    ensures { OpeningRanked q offset (catalogue_in catalogue.entry) (lent_index indexed index.entry.keys.now index.entry.ranks.now index.entry.positions.now) settings (counters_in counters.entry) result ranked.new }
 {
-    let refusal = settings_refusal(settings, offset);
-    if refusal != 0 {
-        return Ranking::Refused(refusal);
+    check_settings(settings, offset)?;
+    if !counters_right(counters, catalogue.marks.len()) {
+        return Err(Refusal::Catalogue);
     }
-    if !counters_right(placements, singles, multi, marks.len()) {
-        return Ranking::Refused(2);
-    }
-    let ranking = rank_checked(
-        ranked,
-        identifiers,
-        identifier_ends,
-        bases,
-        base_ends,
-        marks,
-        q,
-    );
-    let Ranking::Ranked(k) = ranking else {
-        return ranking;
+    let k = rank_checked(ranked, catalogue, q)?;
+    let targets = RankedTargets {
+        bases: catalogue.bases,
+        ends: catalogue.base_ends,
+        ranked: &ranked[..k],
     };
     let tested = indexed && settings.remap;
-    if !index_fits(
-        tested,
-        keys,
-        ranks,
-        positions,
-        bases,
-        base_ends,
-        &ranked[..k],
-        q,
-    ) {
-        return Ranking::Refused(6);
+    if !index_fits(tested, index, targets, q) {
+        return Err(Refusal::StaleIndex);
     }
-    ranking
+    Ok(k)
 }

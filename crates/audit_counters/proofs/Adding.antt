@@ -2,16 +2,18 @@
 use mathlib.Core.Path.{◌≡◌, refl, sym, ap, ◌∙◌}
 use mathlib.Core.Bool.{Bool, true, false}
 use mathlib.Core.List.{List, [], ◌∷◌}
-use Prim.Native.Nat.{ℕ, zero, suc, ◌+◌, ◌*◌, ◌<◌, ◌≤◌}
+use Prim.Native.Nat.{ℕ, zero, suc, ◌+◌, ◌-◌, ◌*◌, ◌<◌, ◌≤◌}
 use native.Mathlib.Omega.{arith}
 use native.Mathlib.Numerals.{add-one}
-use lib.ListN.{length, get_or, set, drop, replicate, length-replicate, get_or-replicate}
+use lib.ListN.{length, get_or, drop, replicate, length-replicate, get_or-replicate}
 use lib.Seq.{ext_get_or}
 use lib.Dec.{leb, eqb}
-use borrow.Author.Tests.{leb-true, le-leb, lt-leb}
+use borrow.Author.Tests.{leb-true, le-leb}
+use Rattle.std.specs.List.{list_all, zip}
+use Rattle.std.proofs.lemmas.Bool.Decides.{nat_tests}
 use Rattle.lists.specs.Filter.{cons_if}
 use Rattle.lists.specs.Raised.{raised_at}
-use Rattle.lists.proofs.Every.{every_at, every_fails, every_passes, every_end, ∈-every}
+use Rattle.lists.proofs.Every.{every_at, ∈-every}
 use Rattle.lists.proofs.Filter.{length_filter}
 use Rattle.lists.proofs.Member.{∈-get_or}
 use Rattle.lists.proofs.Raised.{times, length-raised, length-raised_at, raised_at_times}
@@ -44,22 +46,11 @@ raised_cons : (b : Bool) (x : ℕ) (xs ns : List ℕ) → raised_at (cons_if b x
 raised_cons true x xs ns = refl
 raised_cons false x xs ns = refl
 
--- raised where a test passes, as it is where it fails
-module _ (r b : Bool) (e : r ≡ b) (x : ℕ) (ns : List ℕ) where
-  pub raised_if_lem : r ≡ true → set ns x (get_or ns x 0 + 1) ≡ raised_if b x ns
-  raised_if_lem h = rw (← e, h, add-one)
-
-  pub raised-not : r ≡ false → ns ≡ raised_if b x ns
-  raised-not h = rw (← e, h)
-
 length-raised_if : (b : Bool) (x : ℕ) (ns : List ℕ) → length (raised_if b x ns) ≡ length ns
 length-raised_if true x ns = length-raised x ns
 length-raised_if false x ns = refl
 
 module _ (each : Bool) (n : ℕ) (entries counters₀ : List ℕ) where
-  pub raised_start : RaisedSoFar each n entries counters₀ 0 counters₀
-  raised_start = record { upto = omega arith; rest = refl; long = refl }
-
   module _ (i : ℕ) (counters : List ℕ) (s : RaisedSoFar each n entries counters₀ i counters) where
     pub raised_end : n ≤ i → counters ≡ raised_at (counted_targets each (targets_in n entries)) counters₀
     raised_end h = rw (chosen_end each (targets_in n entries) i (omega (arith, length-targets n entries))) at s.rest
@@ -112,32 +103,14 @@ sums_at (n ∷ ns) [] (suc i) h = sums_at ns [] i (omega arith)
 sums_at (n ∷ ns) (m ∷ ms) zero h = refl
 sums_at (n ∷ ns) (m ∷ ms) (suc i) h = sums_at ns ms i (omega arith)
 
--- the first i sums have 64 bits
-pub record SumsFit (ns ms : List ℕ) (i : ℕ) : Type 0 where
-  pub upto : i ≤ length ns
-  pub rest : small (sums ns ms) ≡ small (drop i (sums ns ms))
-
-module _ (ns ms : List ℕ) where
-  pub sums_start : SumsFit ns ms 0
-  sums_start = record { upto = omega arith; rest = refl }
-
-  module _ (i : ℕ) (s : SumsFit ns ms i) where
-    pub sums_end : length ns ≤ i → true ≡ small (sums ns ms)
-    sums_end h = sym (s.rest ∙ every_end (λ n. leb n max_counter) (sums ns ms) i (omega (arith, length-sums ns ms)))
-
-    module _ (here : i < length ns) where
-      inside : i < length (sums ns ms)
-      inside = omega (arith, length-sums ns ms)
-
-      pub sums-stop : max_counter < get_or ns i 0 + get_or ms i 0 → false ≡ small (sums ns ms)
-      sums-stop h = sym (s.rest ∙ every_fails (λ n. leb n max_counter) 0 (sums ns ms) i inside (lt-leb (get_or (sums ns ms) i 0) max_counter (omega (arith, sums_at ns ms i here))))
-
-      pub sums_go : get_or ns i 0 + get_or ms i 0 ≤ max_counter → SumsFit ns ms (i + 1)
-      sums_go h =
-          record {
-            upto = omega arith;
-            rest = s.rest ∙ every_passes (λ n. leb n max_counter) 0 (sums ns ms) i inside (le-leb (get_or (sums ns ms) i 0) max_counter (omega (arith, sums_at ns ms i here)));
-          }
+-- where no mark is more than what its number lacks, the sums have 64 bits
+pub sums_pass : (ns ms : List ℕ) → length ns ≤ length ms → ((i : ℕ) → get_or ns i 0 ≤ max_counter) → list_all (λ p. leb p.1 (max_counter - p.0)) (zip ns ms) ≡ small (sums ns ms)
+sums_pass [] ms h f = refl
+sums_pass (n ∷ ns) [] h f = absurd (omega arith)
+sums_pass (n ∷ ns) (m ∷ ms) h f =
+    let here : leb m (max_counter - n) ≡ leb (n + m) max_counter = (let e = f 0 in grind (arith, nat_tests)) in
+    let rest = sums_pass ns ms (omega arith) (λ i. f (suc i)) in
+    cc
 
 -- ---- the marks of two reads
 

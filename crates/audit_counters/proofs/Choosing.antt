@@ -27,6 +27,10 @@ targets-at (suc n) entries (suc i) h = targets-at n (drop 4 entries) i (omega ar
 -- ---- which count
 
 module _ (each : Bool) (n : ℕ) (entries : List ℕ) (i : ℕ) where
+  -- each does
+  pub counts_each : each ≡ true → true ≡ counts_at each (targets_in n entries) i
+  counts_each e = rw e refl
+
   -- the last does
   pub counts_last : i + 1 ≡ n → true ≡ counts_at each (targets_in n entries) i
   counts_last e = go each
@@ -107,9 +111,6 @@ pub record RunsCounted (n : ℕ) (entries : List ℕ) (i runs : ℕ) : Type 0 wh
   pub rest : runs + length (run_ends (drop i (targets_in n entries))) ≡ length (run_ends (targets_in n entries))
 
 module _ (n : ℕ) (entries : List ℕ) where
-  pub runs_start : RunsCounted n entries 0 0
-  runs_start = record { upto = omega arith; few = omega arith; rest = omega arith }
-
   module _ (i runs : ℕ) (s : RunsCounted n entries i runs) where
     pub runs_end : n ≤ i → runs ≡ length (run_ends (targets_in n entries))
     runs_end h =

@@ -1,19 +1,21 @@
 -- Counters that have room for all raises stay within 64 bits.
-use mathlib.Core.Path.{◌≡◌, refl, sym, ◌∙◌}
+use mathlib.Core.Path.{◌≡◌, refl, sym, ap, ◌∙◌}
 use mathlib.Core.Bool.{Bool, true, false, not}
 use mathlib.Core.List.{List, [], ◌∷◌}
-use Prim.Native.Nat.{ℕ, zero, suc, ◌+◌, ◌<◌, ◌≤◌}
+use Prim.Native.Nat.{ℕ, zero, suc, ◌+◌, ◌-◌, ◌*◌, ◌<◌, ◌≤◌}
 use native.Mathlib.Omega.{arith}
 use lib.ListN.{length, get_or, drop}
+use lib.Seq.{get_or-drop, drop-drop}
 use lib.Dec.{leb, eqb}
-use borrow.Author.Tests.{leb-true, le-leb, lt-leb, eqb-true}
+use borrow.Author.Tests.{leb-true, eqb-true}
+use Rattle.std.specs.List.{list_all, range_with_len}
+use Rattle.std.proofs.lemmas.Bool.Decides.{nat_tests}
 use Rattle.lists.specs.Filter.{cons_if, every}
 use Rattle.lists.specs.Raised.{raised_at}
 use Rattle.lists.proofs.Cases.{and-true}
-use Rattle.lists.proofs.Every.{every_fails, every_passes, every_end}
 use Rattle.lists.proofs.Raised.{times, length-raised_at}
 use Rattle.audit_ledger.specs.Booking.{max_counter}
-use Rattle.audit_counters.specs.Targets.{run_ends, counted_targets, small, room_at}
+use Rattle.audit_counters.specs.Targets.{targets_in, run_ends, counted_targets, small, room_at}
 use Rattle.audit_counters.proofs.Choosing.{chosen_fewer}
 use Rattle.audit_counters.proofs.Adding.{at_small, times_fewer, marks_at}
 
@@ -71,22 +73,17 @@ room_fits each ts us ns more h a b fit =
         go zero e (suc n) f = omega (arith, value, few, room us b i (omega arith))
         go zero e zero f = omega (arith, value, fit i)
 
--- the first i entries' targets have room
-pub record RoomTo (more : ℕ) (ts ns : List ℕ) (i : ℕ) : Type 0 where
-  pub upto : i ≤ length ts
-  pub rest : room_at more ts ns ≡ room_at more (drop i ts) ns
+-- where no target's counter is above what leaves room, all have room
+module _ (more : ℕ) (entries ns : List ℕ) (h : more ≤ max_counter) where
+  fits : (t : ℕ) → leb (get_or ns t 0) (max_counter - more) ≡ leb (get_or ns t 0 + more) max_counter
+  fits t = grind (arith, nat_tests)
 
-module _ (more : ℕ) (ts ns : List ℕ) where
-  pub room_start : RoomTo more ts ns 0
-  room_start = record { upto = omega arith; rest = refl }
+  pass_from : (n i : ℕ) → list_all (λ k. leb (get_or ns (get_or entries (4 * k) 0) 0) (max_counter - more)) (range_with_len i n) ≡ room_at more (targets_in n (drop (4 * i) entries)) ns
+  pass_from zero i = refl
+  pass_from (suc n) i =
+      let here : get_or (drop (4 * i) entries) 0 0 ≡ get_or entries (4 * i) 0 = get_or-drop (4 * i) entries 0 0 ∙ ap (λ k. get_or entries k 0) (omega arith) in
+      let next : drop 4 (drop (4 * i) entries) ≡ drop (4 * (i + 1)) entries = drop-drop 4 (4 * i) entries ∙ ap (λ k. drop k entries) (omega arith) in
+      rw (here, next, ← fits (get_or entries (4 * i) 0), pass_from n (i + 1))
 
-  module _ (i : ℕ) (r : RoomTo more ts ns i) where
-    pub room_end : length ts ≤ i → true ≡ room_at more ts ns
-    room_end h = sym (r.rest ∙ every_end (λ t. leb (get_or ns t 0 + more) max_counter) ts i h)
-
-    module _ (here : i < length ts) (t : ℕ) (told : get_or ts i 0 ≡ t) where
-      pub room-stop : max_counter < get_or ns t 0 + more → false ≡ room_at more ts ns
-      room-stop h = sym (r.rest ∙ every_fails (λ t. leb (get_or ns t 0 + more) max_counter) 0 ts i here (rw told (lt-leb (get_or ns t 0 + more) max_counter h)))
-
-      pub room_go : get_or ns t 0 + more ≤ max_counter → RoomTo more ts ns (i + 1)
-      room_go h = record { upto = omega arith; rest = r.rest ∙ every_passes (λ t. leb (get_or ns t 0 + more) max_counter) 0 ts i here (rw told (le-leb (get_or ns t 0 + more) max_counter h)) }
+  pub room_pass : (n : ℕ) → list_all (λ k. leb (get_or ns (get_or entries (4 * k) 0) 0) (max_counter - more)) (range_with_len 0 n) ≡ room_at more (targets_in n entries) ns
+  room_pass n = pass_from n 0

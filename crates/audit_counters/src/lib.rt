@@ -12,15 +12,7 @@ fn counts(entries: &[u64], n: usize, i: usize, each: bool) -> bool
     requires { (4 * n ≤ length entries.now) × (i < n) }
     ensures { result ≡ counts_at each (targets_in n entries.now) i }
 {
-    if each {
-        return true;
-    }
-    if i + 1 == n {
-        return true;
-    }
-    let here = entries[4 * i];
-    let next = entries[4 * (i + 1)];
-    here != next
+    each || i + 1 == n || entries[4 * i] != entries[4 * (i + 1)]
 }
 
 // How many runs of one target the first n entries have.
@@ -28,13 +20,11 @@ pub fn count_runs(entries: &[u64], n: usize) -> u64
     requires { 4 * n ≤ length entries.now }
     ensures { result ≡ length (run_ends (targets_in n entries.now)) }
 {
-    let mut runs: u64 = 0;
-    let mut i: usize = 0;
-    while i < n {
+    let mut runs = 0;
+    for i in 0..n {
         if counts(entries, n, i, false) {
             runs += 1;
         }
-        i += 1;
     }
     runs
 }
@@ -45,9 +35,7 @@ fn raise_at(counters: &mut [u64], entries: &[u64], n: usize, i: usize, each: boo
     ensures { counters.new ≡ raised_if (counts_at each (targets_in n entries.now) i) (get_or entries.now (4 * i) 0) counters.old }
 {
     if counts(entries, n, i, each) {
-        let target = entries[4 * i] as usize;
-        let count = counters[target];
-        counters[target] = count + 1;
+        counters[entries[4 * i] as usize] += 1;
     }
 }
 
@@ -56,10 +44,8 @@ pub fn raise_targets(counters: &mut [u64], entries: &[u64], n: usize, each: bool
     requires { Raisable each n entries.now counters.old }
     ensures { counters.new ≡ raised_at (counted_targets each (targets_in n entries.now)) counters.old }
 {
-    let mut i: usize = 0;
-    while i < n {
+    for i in 0..n {
         raise_at(counters, entries, n, i, each);
-        i += 1;
     }
 }
 
@@ -68,15 +54,10 @@ fn sums_fit(counters: &[u64], marks: &[u64]) -> bool
     requires { length counters.now ≤ length marks.now }
     ensures { result ≡ small (sums counters.now marks.now) }
 {
-    let n = counters.len();
-    let mut i: usize = 0;
-    while i < n {
-        if MAX_COUNTER - counters[i] < marks[i] {
-            return false;
-        }
-        i += 1;
-    }
-    true
+    counters
+        .iter()
+        .zip(marks)
+        .all(|(count, mark)| *mark <= MAX_COUNTER - *count)
 }
 
 // Whether they do when they are raised by the targets of two reads: all raises are counted first.
@@ -103,15 +84,7 @@ fn has_room(counters: &[u64], entries: &[u64], n: usize, more: u64) -> bool
     ensures { result ≡ room_at more (targets_in n entries.now) counters.now }
 {
     let most = MAX_COUNTER - more;
-    let mut i: usize = 0;
-    while i < n {
-        let target = entries[4 * i] as usize;
-        if most < counters[target] {
-            return false;
-        }
-        i += 1;
-    }
-    true
+    (0..n).all(|i| counters[entries[4 * i] as usize] <= most)
 }
 
 // Whether counters stay within 64 bits when they are raised by the targets of two reads. Only where a target's counter is nearly
@@ -128,10 +101,6 @@ pub fn targets_fit(
     ensures { result ≡ small (raised_at (counted_targets each (targets_in m second.now)) (raised_at (counted_targets each (targets_in n first.now)) counters.now)) }
 {
     let more = (n + m) as u64;
-    if has_room(counters, first, n, more) {
-        if has_room(counters, second, m, more) {
-            return true;
-        }
-    }
-    totals_fit(counters, first, n, second, m, each)
+    let roomy = has_room(counters, first, n, more) && has_room(counters, second, m, more);
+    roomy || totals_fit(counters, first, n, second, m, each)
 }

@@ -1,4 +1,6 @@
 -- A fragment call, from the opening's checks on.
+use Rattle.std.specs.Prelude.{Result, Ok, Err}
+use Rattle.promises.specs.declared.refusal.Refusal.{Refusal}
 use mathlib.Core.Path.{◌≡◌, refl, sym, ap, subst, subst₂, ◌∙◌}
 use mathlib.Core.Bool.{Bool, true, false, ◌&&◌}
 use mathlib.Core.List.{List}
@@ -6,12 +8,10 @@ use Prim.Native.Nat.{ℕ, ◌≤◌}
 use native.Mathlib.Omega.{arith}
 use lib.ListN.{length, take}
 use Rattle.lists.proofs.Cases.{and-true}
-use Rattle.promises.specs.Refusal.{◌or_else◌, outcome, if_passed}
+use Rattle.promises.specs.Refusal.{refusal_number, ◌or_else◌, outcome, if_passed}
 use Rattle.promises.proofs.Refusing.{stands, outcome_refused, outcome_number}
 use Rattle.catalogue.specs.Catalogue.{Catalogue, targets, mapped, supplied_places, max_targets}
 use Rattle.catalogue.specs.Ranking.{ranking_outcome}
-use Rattle.catalogue.specs.declared.ranks.Ranking.{Ranking}
-use Rattle.catalogue.specs.declared.ranks.Ranking.TheVariants.{Refused, Ranked}
 use Rattle.catalogue.proofs.Checks.{bounded}
 use Rattle.catalogue.proofs.Mapped.{target_count}
 use Rattle.index_seeds.specs.Key.{SeedLength}
@@ -22,7 +22,6 @@ use Rattle.map_every_start.specs.Entries.{entry_count}
 use Rattle.indexed_mapper.proofs.Mapping.{mappable}
 use Rattle.audit_ledger.specs.Booking.{Counters, CountersFor}
 use Rattle.audit_ledger.specs.Counting as counting
-use Rattle.audit_model.specs.declared.calls.FragmentAnswer.TheVariants as fragments
 use Rattle.audit_model.specs.declared.calls.FragmentAudit.{FragmentAudit}
 use Rattle.audit_model.specs.declared.settings.Settings.{Settings}
 use Rattle.audit_model.specs.Settings.{Held}
@@ -41,8 +40,8 @@ use Rattle.audit_tested.proofs.Chain.{untouched}
 
 -- ---- the targets ranked
 
-module _ (q offset : ℕ) (c : Catalogue) (indexed : Bool) (ks rs os : List ℕ) (s : Settings) (k : Counters) (r : Ranking) (buffer : List ℕ)
-    (p : OpeningRanked q offset c (index_if indexed ks rs os) s k r buffer) (seed : SeedLength q) (n : ℕ) (told : r ≡ Ranked n) where
+module _ (q offset : ℕ) (c : Catalogue) (indexed : Bool) (ks rs os : List ℕ) (s : Settings) (k : Counters) (r : Result ℕ Refusal) (buffer : List ℕ)
+    (p : OpeningRanked q offset c (index_if indexed ks rs os) s k r buffer) (seed : SeedLength q) (n : ℕ) (told : r ≡ Ok n) where
   abbrev all_passed : Passed q offset c (index_if indexed ks rs os) s k
   all_passed = opening_passed q offset c (index_if indexed ks rs os) s k (unrefused q offset c (index_if indexed ks rs os) s k r buffer p n told)
 
@@ -93,8 +92,9 @@ module _ (q offset : ℕ) (c : Catalogue) (lent : IndexLent) (h : Held) (f : Fra
   chain = refl
 
   -- the opening's checks refuse
-  pub call_refused : (n : ℕ) → opening ≡ n → (n ≡ 0 → ⊥) → Audits q offset c lent h f entries (record { answer = fragments.Refused n; state = h.state }) h.counters entries
-  call_refused n e ne =
+  pub call_refused : (refusal : Refusal) → opening ≡ refusal_number refusal → (refusal_number refusal ≡ 0 → ⊥) → Audits q offset c lent h f entries (record { answer = Err refusal; state = h.state }) h.counters entries
+  call_refused refusal e ne =
+      let n : ℕ = refusal_number refusal in
       record {
         answer = outcome_refused n _ ne ∙ ap (λ z. outcome z (tested_rows offset (mapped_sequences c) (supplied_places c) h f (way_of q lent))) (sym all);
         held = sym (ap (λ z. if_passed z (fragment_accepted offset c h f) h) all ∙ refused_holds n ne (fragment_accepted offset c h f) h);
@@ -104,8 +104,8 @@ module _ (q offset : ℕ) (c : Catalogue) (lent : IndexLent) (h : Held) (f : Fra
       number : OpeningNumber opening
       number = opening_number q offset c lent h.state.settings h.counters
 
-      all : fragment_refusal q offset c lent h f (entry_count entries) ≡ n
-      all = chain ∙ stands n opening own ne e
+      all : fragment_refusal q offset c lent h f (entry_count entries) ≡ refusal_number refusal
+      all = chain ∙ stands (refusal_number refusal) opening own ne e
 
   -- they pass: the rest is the fragment's own
   pub call-done : opening ≡ 0 → (r : FragmentAudit) (k : Counters) (entries' : List ℕ) → TestedAudited offset (mapped_sequences c) (way_of q lent) (supplied_places c) h f r k entries entries' → Audits q offset c lent h f entries r k entries'
@@ -121,14 +121,14 @@ module _ (q offset : ℕ) (c : Catalogue) (lent : IndexLent) (h : Held) (f : Fra
 
 -- ---- as the function has it
 
-module _ (q offset : ℕ) (c : Catalogue) (indexed : Bool) (ks rs os : List ℕ) (h : Held) (f : Fragment) (entries : List ℕ) (r : Ranking) (buffer : List ℕ)
+module _ (q offset : ℕ) (c : Catalogue) (indexed : Bool) (ks rs os : List ℕ) (h : Held) (f : Fragment) (entries : List ℕ) (r : Result ℕ Refusal) (buffer : List ℕ)
     (p : OpeningRanked q offset c (index_if indexed ks rs os) h.state.settings h.counters r buffer) where
-  pub opening_stands : (n : ℕ) → r ≡ Refused n → Audits q offset c (index_if indexed ks rs os) h f entries (record { answer = fragments.Refused n; state = h.state }) h.counters entries
-  opening_stands n told =
-      let w = outcome_number (opening_refusal q offset c (index_if indexed ks rs os) h.state.settings h.counters) n (length (mapped c)) (sym p.answer ∙ ap ranking_outcome told) in
-      call_refused q offset c (index_if indexed ks rs os) h f entries n w.0 w.1
+  pub opening_stands : (refusal : Refusal) → r ≡ Err refusal → Audits q offset c (index_if indexed ks rs os) h f entries (record { answer = Err refusal; state = h.state }) h.counters entries
+  opening_stands refusal told =
+      let w = outcome_number (opening_refusal q offset c (index_if indexed ks rs os) h.state.settings h.counters) (refusal_number refusal) (length (mapped c)) (sym p.answer ∙ ap ranking_outcome told) in
+      call_refused q offset c (index_if indexed ks rs os) h f entries refusal w.0 w.1
 
-  module _ (seed : SeedLength q) (n : ℕ) (told : r ≡ Ranked n) where
+  module _ (seed : SeedLength q) (n : ℕ) (told : r ≡ Ok n) where
     pub within : n ≤ length buffer
     within = within_buffer q c r buffer (planned q offset c (index_if indexed ks rs os) h.state.settings h.counters r buffer p n told seed) n told
 

@@ -3,16 +3,19 @@
 
 ghost use Rattle.std.specs.Prelude.{◌≤◌};
 ghost use Rattle.bases.specs.Eligibility.{last_quality};
-ghost use Rattle.catalogue.specs.Catalogue.{lent_catalogue};
+ghost use Rattle.catalogue.specs.Catalogue.{catalogue_in};
 ghost use Rattle.index_seeds.specs.Key.{SeedLength};
 ghost use Rattle.audit_ledger.specs.Booking.{left_counters};
 ghost use Rattle.audit_model.specs.Calls.{lent_held, lent_index, lent_mate, fragment_of, Audits};
 
 use audit_checks::check_opening;
-use audit_model::calls::{FragmentAnswer, FragmentAudit};
+use audit_ledger::LentCounters;
+use audit_model::calls::FragmentAudit;
 use audit_model::settings::{AuditState, MateRole};
 use audit_tested::audit_tested;
-use catalogue::ranks::Ranking;
+use catalogue::lent::LentCatalogue;
+use index_columns::LentIndex;
+use index_model::ranked::RankedTargets;
 
 // Audits a fragment with seeds of q bases and qualities from an offset on: refused, or observed and booked.
 pub fn audit_fragment(
@@ -20,14 +23,8 @@ pub fn audit_fragment(
     placements: &mut [u64],
     singles: &mut [u64],
     multi: &mut [u64],
-    keys: &[u64],
-    ranks: &[u64],
-    positions: &[u64],
-    identifiers: &[u8],
-    identifier_ends: &[usize],
-    bases: &[u8],
-    base_ends: &[usize],
-    marks: &[u8],
+    index: LentIndex<'_>,
+    catalogue: LentCatalogue<'_>,
     first: &[u8],
     first_qualities: &[u8],
     second: &[u8],
@@ -44,7 +41,7 @@ pub fn audit_fragment(
     state: AuditState,
 ) -> FragmentAudit
     requires { SeedLength q × (offset ≤ last_quality) }
-    ensures { Audits q offset (lent_catalogue identifiers.now identifier_ends.now bases.now base_ends.now marks.now) (lent_index indexed keys.now ranks.now positions.now)
+    ensures { Audits q offset (catalogue_in catalogue.entry) (lent_index indexed index.entry.keys.now index.entry.ranks.now index.entry.positions.now)
         (lent_held state placements.old singles.old multi.old)
         (fragment_of ordinal count (lent_mate first_role first.now first_present first_qualities.now) (lent_mate second_role second.now second_present second_qualities.now))
         entries.old result (left_counters placements.new singles.new multi.new) entries.new }
@@ -53,38 +50,34 @@ pub fn audit_fragment(
     let settings = state.settings;
     let ranking = check_opening(
         &mut ranked,
-        placements,
-        singles,
-        multi,
-        keys,
-        ranks,
-        positions,
-        identifiers,
-        identifier_ends,
-        bases,
-        base_ends,
-        marks,
+        LentCounters {
+            placements,
+            singles,
+            multi,
+        },
+        index,
+        catalogue,
         indexed,
         q,
         offset,
         settings,
     );
     match ranking {
-        Ranking::Refused(n) => FragmentAudit {
-            answer: FragmentAnswer::Refused(n),
+        Err(refusal) => FragmentAudit {
+            answer: Err(refusal),
             state,
         },
-        Ranking::Ranked(k) => audit_tested(
+        Ok(k) => audit_tested(
             entries,
             placements,
             singles,
             multi,
-            keys,
-            ranks,
-            positions,
-            bases,
-            base_ends,
-            &ranked[..k],
+            index,
+            RankedTargets {
+                bases: catalogue.bases,
+                ends: catalogue.base_ends,
+                ranked: &ranked[..k],
+            },
             first,
             first_qualities,
             second,

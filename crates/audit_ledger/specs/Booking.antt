@@ -1,4 +1,5 @@
 -- What an audit keeps of its reads, and how one is booked (REFERENCE.md, "Booking").
+use Rattle.audit_ledger.specs.declared.LentCounters.{LentCounters}
 use Rattle.std.specs.Prelude.{◌≡◌, Bool, false, not, cond, ◌&&◌, ◌||◌, List, [], ◌∷◌, ◌++◌, map, ℕ, ◌+◌, ◌*◌, length, get_or, replicate, eqb, leb, ltb}
 use Rattle.lists.specs.Filter.{cons_if, every}
 use Rattle.lists.specs.Raised.{raised, raised_at}
@@ -33,6 +34,10 @@ pub record CountersFor (n : ℕ) (k : Counters) : Type 0 where
 -- those that the slices of a call hold when it is made
 abbrev pub lent_counters : List ℕ → List ℕ → List ℕ → Counters
 lent_counters placements singles multi = counters_of placements singles multi
+
+-- those that lent counters hold
+abbrev pub counters_in : LentCounters → Counters
+counters_in k = lent_counters k.placements.now k.singles.now k.multi.now
 
 -- and when it returns
 abbrev pub left_counters : List ℕ → List ℕ → List ℕ → Counters

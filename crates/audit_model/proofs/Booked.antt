@@ -5,9 +5,7 @@ use mathlib.Core.List.{List}
 use Prim.Native.Nat.{ℕ, zero, suc, ◌<◌}
 use native.Mathlib.Omega.{arith}
 use lib.ListN.{length}
-use lib.Dec.{ltb}
 use Rattle.promises.specs.Refusal.{if_passed}
-use Rattle.lists.proofs.Cases.{by_test}
 use Rattle.map_candidates.specs.Search.{compared}
 use Rattle.map_by_index.specs.Work.{work}
 use Rattle.map_by_index.specs.declared.work.MappingWork.{MappingWork}

@@ -1,17 +1,16 @@
 -- What the answers of the code stand for, and what the calls of an audit leave (REFERENCE.md, "Audit").
-use Rattle.std.specs.Prelude.{◌≡◌, Bool, true, false, List, [], ◌∷◌, ℕ, zero, suc, replicate}
-use Rattle.promises.specs.Refusal.{Outcome, refused, accepted, outcome, if_passed}
+use Rattle.std.specs.Prelude.{◌≡◌, Bool, true, false, List, [], ◌∷◌, ℕ, zero, suc, replicate, Result, Ok, Err}
+use Rattle.promises.specs.declared.refusal.Refusal.{Refusal}
+use Rattle.promises.specs.Refusal.{Outcome, refused, accepted, outcome, if_passed, refusal_number}
 use Rattle.bases.specs.Read.{read_of}
 use Rattle.catalogue.specs.Catalogue.{Catalogue}
 use Rattle.map_every_start.specs.Entries.{entry_count}
 use Rattle.map_answers.specs.Answer.{Row, row, state_number}
 use Rattle.map_answers.specs.declared.answer.Mapping.{Mapping}
 use Rattle.audit_ledger.specs.Booking.{Counters, counters_of, lent_counters}
-use Rattle.audit_model.specs.declared.calls.CallAnswer.{CallAnswer}
-use Rattle.audit_model.specs.declared.calls.CallAnswer.TheVariants as calls
 use Rattle.audit_model.specs.declared.calls.Opening.{Opening}
-use Rattle.audit_model.specs.declared.calls.FragmentAnswer.{FragmentAnswer}
-use Rattle.audit_model.specs.declared.calls.FragmentAnswer.TheVariants as fragments
+use Rattle.audit_model.specs.declared.calls.FragmentRows.{FragmentRows}
+use Rattle.audit_model.specs.declared.calls.FragmentRows.TheVariants as fragments
 use Rattle.audit_model.specs.declared.calls.FragmentAudit.{FragmentAudit}
 use Rattle.audit_model.specs.declared.calls.Finish.{Finish}
 use Rattle.audit_model.specs.declared.settings.AuditState.{AuditState}
@@ -59,14 +58,14 @@ lent_mate role bases present qualities = mate_of role bases present qualities
 
 -- ---- what each answer stands for
 
-abbrev pub call_outcome : CallAnswer → Outcome (Unit {0})
-call_outcome (calls.Refused n) = refused n
-call_outcome calls.Accepted = accepted tt
+abbrev pub call_outcome : Result (Unit {0}) Refusal → Outcome (Unit {0})
+call_outcome (Err n) = refused (refusal_number n)
+call_outcome (Ok u) = accepted tt
 
 -- `finish`: a refusal, or its sheet
-abbrev pub sheet_outcome : CallAnswer → Sheet → Outcome Sheet
-sheet_outcome (calls.Refused n) s = refused n
-sheet_outcome calls.Accepted s = accepted s
+abbrev pub sheet_outcome : Result (Unit {0}) Refusal → Sheet → Outcome Sheet
+sheet_outcome (Err n) s = refused (refusal_number n)
+sheet_outcome (Ok u) s = accepted s
 
 abbrev pub finish_outcome : Finish → Outcome Sheet
 finish_outcome f = sheet_outcome f.answer f.sheet
@@ -74,10 +73,10 @@ finish_outcome f = sheet_outcome f.answer f.sheet
 abbrev pub mapping_row : Mapping → Row
 mapping_row m = row (state_number m.state) m.groups m.work
 
-abbrev pub fragment_outcome : FragmentAnswer → Outcome (List Row)
-fragment_outcome (fragments.Refused n) = refused n
-fragment_outcome (fragments.Single m) = accepted (mapping_row m ∷ [])
-fragment_outcome (fragments.Paired m) = accepted (mapping_row m.first ∷ mapping_row m.second ∷ [])
+abbrev pub fragment_outcome : Result FragmentRows Refusal → Outcome (List Row)
+fragment_outcome (Err n) = refused (refusal_number n)
+fragment_outcome (Ok (fragments.Single m)) = accepted (mapping_row m ∷ [])
+fragment_outcome (Ok (fragments.Paired m)) = accepted (mapping_row m.first ∷ mapping_row m.second ∷ [])
 
 -- ---- what the calls promise
 

@@ -1,5 +1,5 @@
 -- A fragment: its refusals, its rows, and what it leaves (REFERENCE.md, "Fragment").
-use Rattle.std.specs.Prelude.{Bool, true, cond, ◌||◌, List, [], ◌∷◌, map, ℕ, zero, suc, ◌+◌, ◌*◌, ◌/◌, eqb, ltb}
+use Rattle.std.specs.Prelude.{Bool, true, cond, ◌||◌, List, [], ◌∷◌, map, ℕ, ◌+◌, ◌*◌, ◌/◌, eqb, ltb, Option, Some, None}
 use Rattle.lists.specs.Same.{same}
 use Rattle.promises.specs.Refusal.{unless, ◌or_else◌, Outcome, outcome, if_passed}
 use Rattle.catalogue.specs.Catalogue.{Catalogue, supplied_places}
@@ -12,8 +12,6 @@ use Rattle.audit_ledger.specs.Booking.{Booked, Books, booked_all, countable}
 use Rattle.audit_model.specs.declared.settings.AuditInputMode.{AuditInputMode}
 use Rattle.audit_model.specs.declared.settings.AuditInputMode.TheVariants as modes
 use Rattle.audit_model.specs.declared.settings.Settings.{Settings}
-use Rattle.audit_model.specs.declared.settings.LastOrdinal.{LastOrdinal}
-use Rattle.audit_model.specs.declared.settings.LastOrdinal.TheVariants as ordinals
 use Rattle.audit_model.specs.Settings.{Held, held_books, role_number, roles_of}
 use Rattle.audit_model.specs.Opening.{IndexLent, way_of, opening_refusal}
 use Rattle.audit_model.specs.Observing.{MateRead, mate_refusal, mate_booked, observe, observed_room, observed_entries, observed_row}
@@ -25,9 +23,9 @@ pub record Fragment : Type 0 where
 -- ---- its own checks
 
 -- 12 where this fails: the ordinal is above the last accepted one
-abbrev pub in_order : LastOrdinal → ℕ → Bool
-in_order ordinals.Absent ordinal = true
-in_order (ordinals.Accepted last) ordinal = ltb last ordinal
+abbrev pub in_order : Option ℕ → ℕ → Bool
+in_order None ordinal = true
+in_order (Some last) ordinal = ltb last ordinal
 
 -- 13 where this fails: exactly S, or R1 then R2, by mode
 abbrev pub roles_right : AuditInputMode → List MateRead → Bool
@@ -85,7 +83,7 @@ module _ (offset : ℕ) (ss : List (List ℕ)) (ranked : List ℕ) (h : Held) (f
   abbrev pub tested_accepted : Held
   tested_accepted =
       record {
-        state = record { settings = settings; last = ordinals.Accepted f.ordinal; ledger = tested_books.ledger };
+        state = record { settings = settings; last = Some f.ordinal; ledger = tested_books.ledger };
         counters = tested_books.counters;
       }
 

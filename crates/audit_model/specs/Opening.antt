@@ -1,5 +1,5 @@
 -- An audit opened: its checks, and what it starts from (REFERENCE.md, "Opening").
-use Rattle.std.specs.Prelude.{Bool, true, not, ◌&&◌, ◌||◌, List, ℕ, zero, suc, length, eqb}
+use Rattle.std.specs.Prelude.{Bool, true, not, ◌||◌, List, ℕ, length}
 use Rattle.promises.specs.Refusal.{unless, ◌or_else◌, if_passed}
 use Rattle.catalogue.specs.Catalogue.{Catalogue, targets, catalogue_refusal}
 use Rattle.index_model.specs.Index.{index, columns_of}

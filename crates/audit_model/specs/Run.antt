@@ -1,5 +1,5 @@
 -- A run: an opening, fragments one after the other, `finish` last (REFERENCE.md, "Runs").
-use Rattle.std.specs.Prelude.{List, [], ◌∷◌, ◌++◌, ℕ, zero, suc}
+use Rattle.std.specs.Prelude.{List, [], ◌∷◌, ◌++◌, ℕ}
 use Rattle.promises.specs.Refusal.{Outcome, if_passed}
 use Rattle.catalogue.specs.Catalogue.{Catalogue}
 use Rattle.map_every_start.specs.Entries.{entry_count}

@@ -1,5 +1,5 @@
 -- The settings and the state of an audit (REFERENCE.md, "Audit").
-use Rattle.std.specs.Prelude.{Bool, false, cond, List, [], ◌∷◌, ℕ, ◌-◌, leb}
+use Rattle.std.specs.Prelude.{Bool, false, cond, List, [], ◌∷◌, ℕ, ◌-◌, leb, None}
 use Rattle.bases.specs.Eligibility.{last_quality}
 use Rattle.audit_ledger.specs.Booking.{Counters, Books, empty_ledger}
 use Rattle.audit_model.specs.declared.settings.AuditInputMode.{AuditInputMode}
@@ -7,7 +7,6 @@ use Rattle.audit_model.specs.declared.settings.AuditInputMode.TheVariants as mod
 use Rattle.audit_model.specs.declared.settings.MateRole.{MateRole}
 use Rattle.audit_model.specs.declared.settings.MateRole.TheVariants as roles
 use Rattle.audit_model.specs.declared.settings.Settings.{Settings}
-use Rattle.audit_model.specs.declared.settings.LastOrdinal.TheVariants as ordinals
 use Rattle.audit_model.specs.declared.settings.AuditState.{AuditState}
 
 -- ---- what is the same for every audit
@@ -45,7 +44,7 @@ states_shown remap = cond remap (1 ∷ 2 ∷ 3 ∷ 4 ∷ 5 ∷ []) (0 ∷ [])
 
 -- a run with these settings, nothing booked
 abbrev pub fresh_state : Settings → AuditState
-fresh_state s = record { settings = s; last = ordinals.Absent; ledger = empty_ledger }
+fresh_state s = record { settings = s; last = None; ledger = empty_ledger }
 
 -- every number zero
 abbrev pub zero_state : AuditState

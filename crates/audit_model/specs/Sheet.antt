@@ -1,5 +1,5 @@
 -- The sheet of a finished audit (REFERENCE.md, "Finish").
-use Rattle.std.specs.Prelude.{Bool, cond, List, [], ◌∷◌, ◌++◌, map, ℕ, get_or}
+use Rattle.std.specs.Prelude.{Bool, cond, List, [], ◌∷◌, ◌++◌, map, ℕ, get_or, Some, None}
 use Prim.Native.String.{String}
 use Rattle.lists.specs.Triple.{Triple}
 use Rattle.promises.specs.Refusal.{unless, ◌or_else◌, Outcome, outcome}
@@ -9,7 +9,6 @@ use Rattle.audit_ledger.specs.Balance.{count_of, balanced}
 use Rattle.audit_model.specs.declared.sheet.Status.{Status}
 use Rattle.audit_model.specs.declared.sheet.Status.TheVariants as statuses
 use Rattle.audit_model.specs.declared.sheet.PlacementTotals.{PlacementTotals}
-use Rattle.audit_model.specs.declared.sheet.Availability.TheVariants as totals
 use Rattle.audit_model.specs.declared.sheet.Shown.{Shown}
 use Rattle.audit_model.specs.declared.sheet.Sheet.{Sheet}
 use Rattle.audit_model.specs.Settings.{Held, held_books, roles_of, states_shown}
@@ -33,10 +32,10 @@ status_word statuses.ClosedUnsupported = "unavailable_closed_walk_audit_unsuppor
 
 -- totals are shown where every read was listed whole
 abbrev pub shown : Status → PlacementTotals → Shown
-shown statuses.Complete t = record { status = statuses.Complete; totals = totals.Available t }
-shown statuses.CandidateLimit t = record { status = statuses.CandidateLimit; totals = totals.Unavailable }
-shown statuses.RemapDisabled t = record { status = statuses.RemapDisabled; totals = totals.Unavailable }
-shown statuses.ClosedUnsupported t = record { status = statuses.ClosedUnsupported; totals = totals.Unavailable }
+shown statuses.Complete t = record { status = statuses.Complete; totals = Some t }
+shown statuses.CandidateLimit t = record { status = statuses.CandidateLimit; totals = None }
+shown statuses.RemapDisabled t = record { status = statuses.RemapDisabled; totals = None }
+shown statuses.ClosedUnsupported t = record { status = statuses.ClosedUnsupported; totals = None }
 
 abbrev pub totals_of : ℕ → ℕ → ℕ → PlacementTotals
 totals_of placements singles multi = record { placements = placements; singles = singles; multi = multi }

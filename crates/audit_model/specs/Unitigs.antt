@@ -1,11 +1,10 @@
 -- The sheet written to the rows of the targets (REFERENCE.md, "Targets' rows").
-use Rattle.std.specs.Prelude.{Bool, true, false, ◌&&◌, List, [], ◌∷◌, ◌++◌, ℕ, zero, suc, ◌*◌, length, eqb}
+use Rattle.std.specs.Prelude.{Bool, true, false, ◌&&◌, List, [], ◌∷◌, ◌++◌, ℕ, ◌*◌, length, eqb, Option, Some, None}
 use Rattle.lists.specs.Same.{same}
 use Rattle.promises.specs.Refusal.{unless, ◌or_else◌, if_passed}
 use Rattle.catalogue.specs.Catalogue.{Catalogue, Target, targets, in_bounds}
 use Rattle.audit_ledger.specs.Booking.{Counters, counters_for}
-use Rattle.audit_model.specs.declared.sheet.Availability.{Availability}
-use Rattle.audit_model.specs.declared.sheet.Availability.TheVariants as totals
+use Rattle.audit_model.specs.declared.sheet.PlacementTotals.{PlacementTotals}
 use Rattle.audit_model.specs.declared.sheet.Shown.{Shown}
 use Rattle.audit_model.specs.declared.sheet.Sheet.{Sheet}
 use Rattle.audit_model.specs.Sheet.{status_number, targets_shown}
@@ -22,9 +21,9 @@ all_alike (t ∷ ts) [] = false
 all_alike (t ∷ ts) (u ∷ us) = alike t u && all_alike ts us
 
 -- the three totals, zero where they are unavailable
-abbrev pub total_numbers : Availability → List ℕ
-total_numbers totals.Unavailable = 0 ∷ 0 ∷ 0 ∷ []
-total_numbers (totals.Available t) = t.placements ∷ t.singles ∷ t.multi ∷ []
+abbrev pub total_numbers : Option PlacementTotals → List ℕ
+total_numbers None = 0 ∷ 0 ∷ 0 ∷ []
+total_numbers (Some t) = t.placements ∷ t.singles ∷ t.multi ∷ []
 
 -- a target's row: its status, then its totals
 abbrev pub shown_numbers : Shown → List ℕ

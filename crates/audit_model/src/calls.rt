@@ -2,17 +2,12 @@
 use crate::settings::AuditState;
 use crate::sheet::Sheet;
 use map_answers::answer::Mapping;
-
-#[derive(Clone, Copy)]
-pub enum CallAnswer {
-    Refused(u64),
-    Accepted,
-}
+use promises::refusal::Refusal;
 
 // An opening answers, and gives the state that a run starts from.
 #[derive(Clone, Copy)]
 pub struct Opening {
-    pub answer: CallAnswer,
+    pub answer: Result<(), Refusal>,
     pub state: AuditState,
 }
 
@@ -23,9 +18,9 @@ pub struct Mates {
     pub second: Mapping,
 }
 
+// The rows of the reads of an accepted fragment.
 #[derive(Clone, Copy)]
-pub enum FragmentAnswer {
-    Refused(u64),
+pub enum FragmentRows {
     Single(Mapping),
     Paired(Mates),
 }
@@ -33,13 +28,13 @@ pub enum FragmentAnswer {
 // A fragment call answers, and gives the state that the run goes on from.
 #[derive(Clone, Copy)]
 pub struct FragmentAudit {
-    pub answer: FragmentAnswer,
+    pub answer: Result<FragmentRows, Refusal>,
     pub state: AuditState,
 }
 
 // A finished audit answers, and gives its sheet, which is that of the all-zero state where it is refused.
 #[derive(Clone, Copy)]
 pub struct Finish {
-    pub answer: CallAnswer,
+    pub answer: Result<(), Refusal>,
     pub sheet: Sheet,
 }

@@ -29,16 +29,10 @@ pub struct Settings {
     pub limit: u64,
 }
 
-// The ordinal of the last accepted fragment, if there is one.
-#[derive(Clone, Copy)]
-pub enum LastOrdinal {
-    Absent,
-    Accepted(u64),
-}
-
 #[derive(Clone, Copy)]
 pub struct AuditState {
     pub settings: Settings,
-    pub last: LastOrdinal,
+    // The ordinal of the last accepted fragment.
+    pub last: Option<u64>,
     pub ledger: Ledger,
 }

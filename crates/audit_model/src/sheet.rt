@@ -17,17 +17,11 @@ pub struct PlacementTotals {
     pub multi: u64,
 }
 
-#[derive(Clone, Copy)]
-pub enum Availability {
-    Unavailable,
-    Available(PlacementTotals),
-}
-
-// What is shown of a target or of the run.
+// What is shown of a target or of the run: its totals only where its status is that they are complete.
 #[derive(Clone, Copy)]
 pub struct Shown {
     pub status: Status,
-    pub totals: Availability,
+    pub totals: Option<PlacementTotals>,
 }
 
 #[derive(Clone, Copy)]

@@ -1,14 +1,16 @@
 -- The reads of a checked fragment observed: their rows and entries, what is posted of them, and refusal 17.
+use Rattle.std.specs.Prelude.{Result, Ok, Err, Option, Some, None, IsSome, IsNone}
+use Rattle.promises.specs.declared.refusal.Refusal.{Refusal}
 use mathlib.Core.Path.{◌≡◌, refl, sym, ap, subst, ◌∙◌}
-use mathlib.Core.Bool.{Bool, true, false, true≢false}
+use Rattle.promises.specs.declared.refusal.Refusal.TheVariants as refusals
+use mathlib.Core.Bool.{Bool, true, false, cond, true≢false}
 use mathlib.Core.List.{List, [], ◌∷◌, map, head-eq_of_cons-eq, tail-eq_of_cons-eq}
 use Prim.Native.Nat.{ℕ, suc, ◌+◌, ◌*◌, ◌≤◌, ◌<◌, ◌/◌}
 use native.Mathlib.Omega.{arith}
 use native.Mathlib.Nat.{mul-suc}
 use lib.ListN.{length, get_or, drop, length-map}
 use Rattle.lists.specs.Cut.{window, cut}
-use Rattle.lists.proofs.Cases.{clash}
-use Rattle.promises.specs.Refusal.{◌or_else◌, outcome}
+use Rattle.promises.specs.Refusal.{refusal_number, ◌or_else◌, outcome}
 use Rattle.promises.proofs.Refusing.{first_stands, none_first, none_second, outcome_accepted, outcome_number}
 use Rattle.buffers.specs.Placed.{placed}
 use Rattle.map_every_start.specs.Entries.{entry_count, cleared}
@@ -22,16 +24,15 @@ use Rattle.map_answers.proofs.Concluding.{length-cleared}
 use Rattle.audit_ledger.specs.Booking.{Counters, Books, booked_all, countable}
 use Rattle.audit_ledger.specs.Counting.{Ranked}
 use Rattle.audit_ledger.specs.declared.Ledger.{Ledger}
-use Rattle.audit_book_read.specs.declared.Posted.{Posted}
+use Rattle.std.specs.Option.{is_some}
 use Rattle.audit_book_fragment.specs.Books.{posted_all, books_small, CountersLent, Postable, FragmentPostable}
-use Rattle.audit_model.specs.declared.calls.FragmentAnswer.{FragmentAnswer}
-use Rattle.audit_model.specs.declared.calls.FragmentAnswer.TheVariants as fragments
+use Rattle.audit_model.specs.declared.calls.FragmentRows.{FragmentRows}
+use Rattle.audit_model.specs.declared.calls.FragmentRows.TheVariants as fragments
 use Rattle.audit_model.specs.declared.calls.Mates.{Mates}
 use Rattle.audit_model.specs.declared.settings.AuditInputMode.{AuditInputMode}
 use Rattle.audit_model.specs.declared.settings.AuditInputMode.TheVariants as modes
 use Rattle.index_model.specs.Index.{ranked_sequences}
 use Rattle.audit_model.specs.declared.settings.MateRole.{MateRole}
-use Rattle.audit_model.specs.declared.settings.MateRole.TheVariants as roles
 use Rattle.audit_model.specs.Settings.{role_number}
 use Rattle.audit_model.specs.declared.settings.Settings.{Settings}
 use Rattle.audit_model.specs.Observing.{Observed, observed_room, observed_entries, observed_row, observed_booked}
@@ -49,10 +50,10 @@ use Rattle.audit_book_answer.proofs.Posted.{AllPost, posted_all_lem, books_count
 use Rattle.audit_observe_fragment.specs.Observe.{observed_refusal, RankedLent, RankedObserved}
 use Rattle.audit_observe_fragment.proofs.Seeing.{observed_short, observed_posts, observed_postable}
 
-abbrev is_refused : FragmentAnswer → Bool
-is_refused (fragments.Refused n) = true
-is_refused (fragments.Single m) = false
-is_refused (fragments.Paired m) = false
+abbrev is_refused : Result FragmentRows Refusal → Bool
+is_refused (Err n) = true
+is_refused (Ok (fragments.Single m)) = false
+is_refused (Ok (fragments.Paired m)) = false
 
 few_states : (state : ReadState) → state_number state < 6
 few_states states.NotRequested = omega arith
@@ -61,6 +62,11 @@ few_states states.Indeterminate = omega arith
 few_states states.Unmapped = omega arith
 few_states states.Single = omega arith
 few_states states.Multiple = omega arith
+
+-- a ledger is posted where there is room
+posted_if : (b : Bool) (l : Ledger) (r : Option Ledger) → r ≡ cond b (Some l) None → is_some r ≡ b
+posted_if true l r e = ap is_some e
+posted_if false l r e = ap is_some e
 
 -- lists put into parts of whole entries leave what lies behind these
 within_parts : (b : List ℕ) (width from : ℕ) (ls : List (List ℕ)) (c : List ℕ) → Within b c → Short width ls → from + width * length ls ≤ 4 * entry_count b → Within b (in_parts width from ls c)
@@ -154,30 +160,30 @@ module _ (s : Settings) (ss : List (List ℕ)) (way : Way) (ranked : List ℕ) (
   -- ---- an answer in either mode
 
   -- what is told of the reads of an answer: their targets have counters, and what is posted of them is what is booked of them
-  pub record AnswerTold (mode : AuditInputMode) (k : Counters) (a : FragmentAnswer) : Type 0 where
+  pub record AnswerTold (mode : AuditInputMode) (k : Counters) (a : Result FragmentRows Refusal) : Type 0 where
     pub postable : AnswerPostable a first second (4 * share_of mode P) entries k
-    pub posts : ((n : ℕ) → a ≡ fragments.Refused n → ⊥) → AllPost ranked (answer_reads a first second (4 * share_of mode P) entries) (by_mode mode (observed_booked s ss first one) (observed_booked s ss second two))
-    pub within : ((n : ℕ) → a ≡ fragments.Refused n → ⊥) → Within buffer entries
+    pub posts : ((n : Refusal) → a ≡ Err n → ⊥) → AllPost ranked (answer_reads a first second (4 * share_of mode P) entries) (by_mode mode (observed_booked s ss first one) (observed_booked s ss second two))
+    pub within : ((n : Refusal) → a ≡ Err n → ⊥) → Within buffer entries
 
   module _ (k : Counters) (e : n ≡ length k.placements) (c : CountersLent (length k.placements) k) where
-    answer_told : (mode : AuditInputMode) (a : FragmentAnswer)
+    answer_told : (mode : AuditInputMode) (a : Result FragmentRows Refusal)
         → fragment_outcome a ≡ outcome (first_refusal (observed_room s ss (share_of mode P)) (by_mode mode one two)) (map (observed_row s ss way) (by_mode mode one two))
         → entries ≡ entries_left (first_refusal (observed_room s ss (share_of mode P)) (by_mode mode one two)) (in_parts (4 * share_of mode P) 0 (map (observed_entries s ss ranked) (by_mode mode one two)) (cleared buffer)) buffer
         → AnswerTold mode k a
-    answer_told mode (fragments.Refused m) A E = record { postable = tt; posts = λ ne. absurd (ne m refl); within = λ ne. absurd (ne m refl) }
-    answer_told modes.SingleEnd (fragments.Single m) A E =
+    answer_told mode (Err m) A E = record { postable = tt; posts = λ ne. absurd (ne m refl); within = λ ne. absurd (ne m refl) }
+    answer_told modes.SingleEnd (Ok (fragments.Single m)) A E =
         let o = outcome_accepted (observed_room s ss P one or_else 0) (observed_row s ss way one ∷ []) (mapping_row m ∷ []) (sym A) in
         let room = none_first (observed_room s ss P one) 0 o.0 in
         let told = sym (head-eq_of_cons-eq o.1) in
         let written = E ∙ ap (λ z. entries_left z (in_parts (4 * P) 0 (observed_entries s ss ranked one ∷ []) (cleared buffer)) buffer) o.0 in
         record { postable = single_lent m told room written k e c; posts = λ ne. single_posts m told room written; within = λ ne. single_within m told room written }
-    answer_told modes.SingleEnd (fragments.Paired m) A E =
+    answer_told modes.SingleEnd (Ok (fragments.Paired m)) A E =
         let o = outcome_accepted (observed_room s ss P one or_else 0) (observed_row s ss way one ∷ []) (mapping_row m.first ∷ mapping_row m.second ∷ []) (sym A) in
         absurd (omega (arith, ap length o.1))
-    answer_told modes.PairedEnd (fragments.Single m) A E =
+    answer_told modes.PairedEnd (Ok (fragments.Single m)) A E =
         let o = outcome_accepted (observed_room s ss (P / 2) one or_else observed_room s ss (P / 2) two or_else 0) (observed_row s ss way one ∷ observed_row s ss way two ∷ []) (mapping_row m ∷ []) (sym A) in
         absurd (omega (arith, ap length o.1))
-    answer_told modes.PairedEnd (fragments.Paired m) A E =
+    answer_told modes.PairedEnd (Ok (fragments.Paired m)) A E =
         let o = outcome_accepted (observed_room s ss (P / 2) one or_else observed_room s ss (P / 2) two or_else 0) (observed_row s ss way one ∷ observed_row s ss way two ∷ []) (mapping_row m.first ∷ mapping_row m.second ∷ []) (sym A) in
         let room = none_first (observed_room s ss (P / 2) one) _ o.0 in
         let more = none_first (observed_room s ss (P / 2) two) 0 (none_second (observed_room s ss (P / 2) one) _ o.0) in
@@ -186,7 +192,7 @@ module _ (s : Settings) (ss : List (List ℕ)) (way : Way) (ranked : List ℕ) (
         let written = E ∙ ap (λ z. entries_left z (in_parts (4 * (P / 2)) 0 (observed_entries s ss ranked one ∷ observed_entries s ss ranked two ∷ []) (cleared buffer)) buffer) o.0 in
         record { postable = pair_lent m told also room more written k e c; posts = λ ne. pair_posts m told also room more written; within = λ ne. pair_within m told also room more written }
 
-    module _ (r : FragmentAnswer) (seen : ReadsObserved s ss way ranked (by_mode s.mode one two) r buffer entries) where
+    module _ (r : Result FragmentRows Refusal) (seen : ReadsObserved s ss way ranked (by_mode s.mode one two) r buffer entries) where
       pub told : AnswerTold s.mode k r
       told = answer_told s.mode r seen.answer seen.entries
 
@@ -197,7 +203,7 @@ module _ (s : Settings) (ss : List (List ℕ)) (way : Way) (ranked : List ℕ) (
       books l = record { ledger = l; counters = k }
 
       -- 17 is the test of what is posted
-      fits-countable : (l : Ledger) → ((m : ℕ) → r ≡ fragments.Refused m → ⊥)
+      fits-countable : (l : Ledger) → ((m : Refusal) → r ≡ Err m → ⊥)
           → countable (booked_all ranked (by_mode s.mode (observed_booked s ss first one) (observed_booked s ss second two)) (books l)) ≡ books_small (posted_all (answer_reads r first second (4 * share_of s.mode P) entries) (books l))
       fits-countable l ne =
           books_countable _
@@ -207,57 +213,57 @@ module _ (s : Settings) (ss : List (List ℕ)) (way : Way) (ranked : List ℕ) (
       written = in_parts (4 * share_of s.mode P) 0 (map (observed_entries s ss ranked) (by_mode s.mode one two)) (cleared buffer)
 
       -- an accepted answer had room
-      pub accepted_room : ((m : ℕ) → r ≡ fragments.Refused m → ⊥) → rooms ≡ 0
+      pub accepted_room : ((m : Refusal) → r ≡ Err m → ⊥) → rooms ≡ 0
       accepted_room ne = go r refl
         where
-          go : (a : FragmentAnswer) → r ≡ a → rooms ≡ 0
-          go (fragments.Refused m) f = absurd (ne m f)
-          go (fragments.Single m) f = (outcome_accepted rooms _ (mapping_row m ∷ []) (sym seen.answer ∙ ap fragment_outcome f)).0
-          go (fragments.Paired m) f = (outcome_accepted rooms _ (mapping_row m.first ∷ mapping_row m.second ∷ []) (sym seen.answer ∙ ap fragment_outcome f)).0
+          go : (a : Result FragmentRows Refusal) → r ≡ a → rooms ≡ 0
+          go (Err m) f = absurd (ne m f)
+          go (Ok (fragments.Single m)) f = (outcome_accepted rooms _ (mapping_row m ∷ []) (sym seen.answer ∙ ap fragment_outcome f)).0
+          go (Ok (fragments.Paired m)) f = (outcome_accepted rooms _ (mapping_row m.first ∷ mapping_row m.second ∷ []) (sym seen.answer ∙ ap fragment_outcome f)).0
 
-      module _ (l : Ledger) (r' : Posted) (posted : AnswerPosted r first second (4 * share_of s.mode P) entries (books l) r') where
+      module _ (l : Ledger) (r' : Option Ledger) (posted : AnswerPosted r first second (4 * share_of s.mode P) entries (books l) r') where
         abbrev refusal : ℕ
         refusal = observed_refusal s ss way ranked first second one two l k P
 
         -- there is no room in the books: the answer was accepted, and is refused 17
-        full : r'.fits ≡ false → (((m : ℕ) → r ≡ fragments.Refused m → ⊥) × (refusal ≡ 17))
+        full : IsNone r' → (((m : Refusal) → r ≡ Err m → ⊥) × (refusal ≡ 17))
         full f = go r refl posted
           where
-            not_refused : (a : FragmentAnswer) → is_refused a ≡ false → (m : ℕ) → a ≡ fragments.Refused m → ⊥
+            not_refused : (a : Result FragmentRows Refusal) → is_refused a ≡ false → (m : Refusal) → a ≡ Err m → ⊥
             not_refused a e m g = true≢false (sym (ap is_refused g) ∙ e)
 
-            seventeen : ((m : ℕ) → r ≡ fragments.Refused m → ⊥) → books_small (posted_all (answer_reads r first second (4 * share_of s.mode P) entries) (books l)) ≡ false → refusal ≡ 17
+            seventeen : ((m : Refusal) → r ≡ Err m → ⊥) → books_small (posted_all (answer_reads r first second (4 * share_of s.mode P) entries) (books l)) ≡ false → refusal ≡ 17
             seventeen ne z = rw (accepted_room ne, fits-countable l ne, z)
 
-            go : (a : FragmentAnswer) → r ≡ a → AnswerPosted a first second (4 * share_of s.mode P) entries (books l) r' → (((m : ℕ) → r ≡ fragments.Refused m → ⊥) × (refusal ≡ 17))
-            go (fragments.Refused m) e p = clash p f
-            go (fragments.Single m) e p =
-                let ne : (m : ℕ) → r ≡ fragments.Refused m → ⊥ = λ n g. not_refused (fragments.Single m) refl n (sym e ∙ g) in
-                (ne, seventeen ne (ap (λ a. books_small (posted_all (answer_reads a first second (4 * share_of s.mode P) entries) (books l))) e ∙ sym p.fits ∙ f))
-            go (fragments.Paired m) e p =
-                let ne : (m : ℕ) → r ≡ fragments.Refused m → ⊥ = λ n g. not_refused (fragments.Paired m) refl n (sym e ∙ g) in
-                (ne, seventeen ne (ap (λ a. books_small (posted_all (answer_reads a first second (4 * share_of s.mode P) entries) (books l))) e ∙ sym p.fits ∙ f))
+            go : (a : Result FragmentRows Refusal) → r ≡ a → AnswerPosted a first second (4 * share_of s.mode P) entries (books l) r' → (((m : Refusal) → r ≡ Err m → ⊥) × (refusal ≡ 17))
+            go (Err m) e p = absurd (true≢false (ap is_some (sym p) ∙ f))
+            go (Ok (fragments.Single m)) e p =
+                let ne : (m : Refusal) → r ≡ Err m → ⊥ = λ n g. not_refused (Ok (fragments.Single m)) refl n (sym e ∙ g) in
+                (ne, seventeen ne (ap (λ a. books_small (posted_all (answer_reads a first second (4 * share_of s.mode P) entries) (books l))) e ∙ sym (posted_if _ _ r' p) ∙ f))
+            go (Ok (fragments.Paired m)) e p =
+                let ne : (m : Refusal) → r ≡ Err m → ⊥ = λ n g. not_refused (Ok (fragments.Paired m)) refl n (sym e ∙ g) in
+                (ne, seventeen ne (ap (λ a. books_small (posted_all (answer_reads a first second (4 * share_of s.mode P) entries) (books l))) e ∙ sym (posted_if _ _ r' p) ∙ f))
 
         -- there is room: the refusal is that of the rooms
-        fitting : r'.fits ≡ true → refusal ≡ rooms
+        fitting : IsSome r' → refusal ≡ rooms
         fitting f = go r refl posted
           where
-            counted : ((m : ℕ) → r ≡ fragments.Refused m → ⊥) → books_small (posted_all (answer_reads r first second (4 * share_of s.mode P) entries) (books l)) ≡ true → refusal ≡ rooms
+            counted : ((m : Refusal) → r ≡ Err m → ⊥) → books_small (posted_all (answer_reads r first second (4 * share_of s.mode P) entries) (books l)) ≡ true → refusal ≡ rooms
             counted ne z = rw (accepted_room ne, fits-countable l ne, z)
 
-            go : (a : FragmentAnswer) → r ≡ a → AnswerPosted a first second (4 * share_of s.mode P) entries (books l) r' → refusal ≡ rooms
-            go (fragments.Refused m) e p =
-                let o = outcome_number rooms m _ (sym seen.answer ∙ ap fragment_outcome e) in
+            go : (a : Result FragmentRows Refusal) → r ≡ a → AnswerPosted a first second (4 * share_of s.mode P) entries (books l) r' → refusal ≡ rooms
+            go (Err m) e p =
+                let o = outcome_number rooms (refusal_number m) _ (sym seen.answer ∙ ap fragment_outcome e) in
                 sym (first_stands rooms _ (λ z. o.1 (sym o.0 ∙ z)))
-            go (fragments.Single m) e p = counted (λ n g. true≢false (sym (ap is_refused (sym e ∙ g)))) (ap (λ a. books_small (posted_all (answer_reads a first second (4 * share_of s.mode P) entries) (books l))) e ∙ sym p.fits ∙ f)
-            go (fragments.Paired m) e p = counted (λ n g. true≢false (sym (ap is_refused (sym e ∙ g)))) (ap (λ a. books_small (posted_all (answer_reads a first second (4 * share_of s.mode P) entries) (books l))) e ∙ sym p.fits ∙ f)
+            go (Ok (fragments.Single m)) e p = counted (λ n g. true≢false (sym (ap is_refused (sym e ∙ g)))) (ap (λ a. books_small (posted_all (answer_reads a first second (4 * share_of s.mode P) entries) (books l))) e ∙ sym (posted_if _ _ r' p) ∙ f)
+            go (Ok (fragments.Paired m)) e p = counted (λ n g. true≢false (sym (ap is_refused (sym e ∙ g)))) (ap (λ a. books_small (posted_all (answer_reads a first second (4 * share_of s.mode P) entries) (books l))) e ∙ sym (posted_if _ _ r' p) ∙ f)
 
         -- the answer stands
-        pub observed_done : r'.fits ≡ true → RankedObserved s ss way ranked first second one two l k r buffer entries
+        pub observed_done : IsSome r' → RankedObserved s ss way ranked first second one two l k r buffer entries
         observed_done f = record { answer = rw (fitting f) seen.answer; entries = rw (fitting f) seen.entries }
 
         -- or all is set to zero again
-        pub observed_full : r'.fits ≡ false → (b : List ℕ) → b ≡ cleared entries → RankedObserved s ss way ranked first second one two l k (fragments.Refused 17) buffer b
+        pub observed_full : IsNone r' → (b : List ℕ) → b ≡ cleared entries → RankedObserved s ss way ranked first second one two l k (Err refusals.FullCounter) buffer b
         observed_full f b e =
             let o = full f in
             record { answer = rw o.1 refl; entries = rw o.1 (e ∙ within_cleared buffer entries (told.within o.0)) }
@@ -265,7 +271,7 @@ module _ (s : Settings) (ss : List (List ℕ)) (way : Way) (ranked : List ℕ) (
 -- ---- as the function has it
 
 module _ (indexed : Bool) (q : ℕ) (bases ends ranked ks rs os first second : List ℕ) (searched : SearchedReads) (s : Settings) (k : Counters)
-    (lent : RankedLent indexed q bases ends ranked ks rs os first second searched s k) (one two : MateRole) (buffer entries : List ℕ) (r : FragmentAnswer)
+    (lent : RankedLent indexed q bases ends ranked ks rs os first second searched s k) (one two : MateRole) (buffer entries : List ℕ) (r : Result FragmentRows Refusal)
     (seen : ReadsObserved s (ranked_sequences bases ends ranked) (way_if indexed q) ranked (observed_reads s searched.first first searched.second second) r buffer entries)
     (w : ℕ) (share : w ≡ share_of s.mode (entry_count buffer)) where
   abbrev many : length ranked ≡ length (ranked_sequences bases ends ranked)
@@ -280,16 +286,15 @@ module _ (indexed : Bool) (q : ℕ) (bases ends ranked ks rs os first second : L
       (told s (ranked_sequences bases ends ranked) (way_if indexed q) ranked (role_number one) (role_number two) (as_observed searched.first first) (as_observed searched.second second) buffer entries
       (length k.placements) lent.places many lent.limit both k refl lent.counters r seen).postable
 
-  module _ (l : Ledger) (r' : Posted) (posted : AnswerPosted r (role_number one) (role_number two) (4 * w) entries (record { ledger = l; counters = k }) r') where
-    pub ranked_done : r'.fits ≡ true
+  module _ (l : Ledger) (r' : Option Ledger) (posted : AnswerPosted r (role_number one) (role_number two) (4 * w) entries (record { ledger = l; counters = k }) r') where
+    pub ranked_done : IsSome r'
         → RankedObserved s (ranked_sequences bases ends ranked) (way_if indexed q) ranked (role_number one) (role_number two) (as_observed searched.first first) (as_observed searched.second second) l k r buffer entries
     ranked_done =
         observed_done s (ranked_sequences bases ends ranked) (way_if indexed q) ranked (role_number one) (role_number two) (as_observed searched.first first) (as_observed searched.second second) buffer entries
         (length k.placements) lent.places many lent.limit both k refl lent.counters r seen l r' (rw share at posted)
 
-    pub ranked_full : r'.fits ≡ false → (b : List ℕ) → b ≡ cleared entries → (n : ℕ) → n ≡ 17
-        → RankedObserved s (ranked_sequences bases ends ranked) (way_if indexed q) ranked (role_number one) (role_number two) (as_observed searched.first first) (as_observed searched.second second) l k (fragments.Refused n) buffer b
-    ranked_full f b e n g =
-        rw g
-        (observed_full s (ranked_sequences bases ends ranked) (way_if indexed q) ranked (role_number one) (role_number two) (as_observed searched.first first) (as_observed searched.second second) buffer entries
-        (length k.placements) lent.places many lent.limit both k refl lent.counters r seen l r' (rw share at posted) f b e)
+    pub ranked_full : IsNone r' → (b : List ℕ) → b ≡ cleared entries
+        → RankedObserved s (ranked_sequences bases ends ranked) (way_if indexed q) ranked (role_number one) (role_number two) (as_observed searched.first first) (as_observed searched.second second) l k (Err refusals.FullCounter) buffer b
+    ranked_full f b e =
+        observed_full s (ranked_sequences bases ends ranked) (way_if indexed q) ranked (role_number one) (role_number two) (as_observed searched.first first) (as_observed searched.second second) buffer entries
+        (length k.placements) lent.places many lent.limit both k refl lent.counters r seen l r' (rw share at posted) f b e

@@ -1,5 +1,6 @@
 -- A fragment observed, step by step (REFERENCE.md, "Fragment").
-use Rattle.std.specs.Prelude.{◌≡◌, Bool, true, List, map, ℕ, ◌*◌, ◌≤◌, length}
+use Rattle.std.specs.Prelude.{◌≡◌, Bool, true, List, map, ℕ, ◌*◌, length, Result}
+use Rattle.promises.specs.declared.refusal.Refusal.{Refusal}
 use Rattle.promises.specs.Refusal.{unless, ◌or_else◌, outcome}
 use Rattle.map_every_start.specs.Entries.{entry_count, cleared}
 use Rattle.map_by_index.specs.Work.{Way}
@@ -8,7 +9,7 @@ use Rattle.audit_ledger.specs.Booking.{Counters, booked_all, countable}
 use Rattle.audit_ledger.specs.Counting.{Ranked}
 use Rattle.audit_ledger.specs.declared.Ledger.{Ledger}
 use Rattle.audit_book_fragment.specs.Books.{CountersLent}
-use Rattle.audit_model.specs.declared.calls.FragmentAnswer.{FragmentAnswer}
+use Rattle.audit_model.specs.declared.calls.FragmentRows.{FragmentRows}
 use Rattle.audit_model.specs.declared.settings.Settings.{Settings}
 use Rattle.audit_model.specs.Observing.{Observed, observed_entries, observed_row, observed_booked}
 use Rattle.audit_model.specs.Fragment.{share_of, in_parts, entries_left}
@@ -34,7 +35,7 @@ module _ (s : Settings) (ss : List (List ℕ)) (way : Way) (ranked : List ℕ) (
       rooms_refusal s ss way ranked (by_mode s.mode one two) entries
       or_else unless (countable (booked_all ranked (by_mode s.mode (observed_booked s ss first one) (observed_booked s ss second two)) (record { ledger = l; counters = k }))) 17
 
-  pub record RankedObserved (r : FragmentAnswer) (buffer buffer' : List ℕ) : Type 0 where
+  pub record RankedObserved (r : Result FragmentRows Refusal) (buffer buffer' : List ℕ) : Type 0 where
     pub answer : fragment_outcome r ≡ outcome (observed_refusal (entry_count buffer)) (map (observed_row s ss way) (by_mode s.mode one two))
     pub entries :
         buffer' ≡ entries_left (observed_refusal (entry_count buffer))

@@ -1,4 +1,6 @@
 -- One read observed: searched into its part, or not searched.
+use Rattle.std.specs.Prelude.{Result, Ok}
+use Rattle.promises.specs.declared.refusal.Refusal.{Refusal}
 use mathlib.Core.Path.{◌≡◌, sym, ap}
 use mathlib.Core.Bool.{Bool, true, false, cond}
 use mathlib.Core.List.{List}
@@ -13,8 +15,6 @@ use Rattle.map_every_start.specs.Entries.{entry_count}
 use Rattle.map_every_start.specs.Searched.{Searchable}
 use Rattle.map_by_index.specs.Steps.{IndexSearchable}
 use Rattle.map_answers.specs.Answer.{row}
-use Rattle.map_answers.specs.declared.answer.MapAnswer.{MapAnswer}
-use Rattle.map_answers.specs.declared.answer.MapAnswer.TheVariants as answers
 use Rattle.map_answers.specs.declared.answer.Mapping.{Mapping}
 use Rattle.map_search.specs.Answered.{PartSearched}
 use Rattle.map_search.proofs.Listed.{none_listed}
@@ -36,9 +36,9 @@ module _ (indexed : Bool) (q : ℕ) (bases ends ranked ks rs os : List ℕ) (o :
 
 module _ (s : Settings) (ss : List (List ℕ)) (indexed : Bool) (q : ℕ) (ranked read : List ℕ) (searched : Bool) (from width : ℕ) (b : List ℕ) where
   -- a read that is not searched
-  pub not_searched : from + width ≤ length b → searched ≡ false → (m : Mapping) → mapping_row m ≡ row (cond s.remap 1 0) 0 no_work → ReadObserved s ss (way_if indexed q) ranked read searched from width (answers.Mapped m) b b
+  pub not_searched : from + width ≤ length b → searched ≡ false → (m : Mapping) → mapping_row m ≡ row (cond s.remap 1 0) 0 no_work → ReadObserved s ss (way_if indexed q) ranked read searched from width (Ok m) b b
   not_searched h f m e = record { answer = rw (f, none_listed s.limit, le-ltb (entry_count (window b from width)) 0 (omega arith)) (ap accepted e); entries = rw f (sym (placed_self from width b h)) }
 
   -- a read that is searched
-  pub part_observed : searched ≡ true → (i : Bool) → indexed ≡ i → (limit : ℕ) → limit ≡ s.limit → (r : MapAnswer) (b' : List ℕ) → PartSearched (way_if i q) ss ranked read limit from width r b b' → ReadObserved s ss (way_if indexed q) ranked read searched from width r b b'
+  pub part_observed : searched ≡ true → (i : Bool) → indexed ≡ i → (limit : ℕ) → limit ≡ s.limit → (r : Result Mapping Refusal) (b' : List ℕ) → PartSearched (way_if i q) ss ranked read limit from width r b b' → ReadObserved s ss (way_if indexed q) ranked read searched from width r b b'
   part_observed t i k limit e r b' p = record { answer = rw (t, k, ← e) p.answer; entries = rw (t, ← e) p.part }

@@ -1,5 +1,6 @@
 -- One read of a fragment observed (REFERENCE.md, "Observing").
-use Rattle.std.specs.Prelude.{◌≡◌, Bool, true, false, cond, List, ℕ, ◌≤◌, length}
+use Rattle.std.specs.Prelude.{◌≡◌, Bool, true, false, cond, List, ℕ, ◌≤◌, length, Result}
+use Rattle.promises.specs.declared.refusal.Refusal.{Refusal}
 use Rattle.lists.specs.Cut.{window}
 use Rattle.promises.specs.Refusal.{outcome}
 use Rattle.bases.specs.Read.{letters}
@@ -10,7 +11,7 @@ use Rattle.map_places.specs.Place.{max_read}
 use Rattle.map_every_start.specs.Entries.{entry_count}
 use Rattle.map_by_index.specs.Work.{Way, by_index, plain}
 use Rattle.map_answers.specs.Answer.{answer_of}
-use Rattle.map_answers.specs.declared.answer.MapAnswer.{MapAnswer}
+use Rattle.map_answers.specs.declared.answer.Mapping.{Mapping}
 use Rattle.map_search.specs.Answered.{search_entries}
 use Rattle.audit_model.specs.declared.settings.Settings.{Settings}
 use Rattle.audit_model.specs.Observing.{Observed, observed_room, observed_row}
@@ -35,6 +36,6 @@ abbrev pub as_observed : Bool → List ℕ → Observed
 as_observed searched read = record { searched = searched; bases = read }
 
 -- one read observed into `width` numbers of the entries from a place on; where it is not searched they stay
-pub record ReadObserved (s : Settings) (ss : List (List ℕ)) (way : Way) (ranked : List ℕ) (read : List ℕ) (searched : Bool) (from width : ℕ) (r : MapAnswer) (buffer buffer' : List ℕ) : Type 0 where
+pub record ReadObserved (s : Settings) (ss : List (List ℕ)) (way : Way) (ranked : List ℕ) (read : List ℕ) (searched : Bool) (from width : ℕ) (r : Result Mapping Refusal) (buffer buffer' : List ℕ) : Type 0 where
   pub answer : answer_of r ≡ outcome (observed_room s ss (entry_count (window buffer from width)) (as_observed searched read)) (observed_row s ss way (as_observed searched read))
   pub entries : buffer' ≡ placed from (cond searched (search_entries ss ranked read s.limit (window buffer from width)) (window buffer from width)) buffer

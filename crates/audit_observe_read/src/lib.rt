@@ -2,18 +2,21 @@
 #![tactic(auto)]
 
 ghost use Rattle.std.specs.Prelude.{◌≡◌, cond, ◌+◌, ◌≤◌, length};
-ghost use Rattle.index_model.specs.Index.{lent_sequences};
+ghost use Rattle.index_model.specs.Index.{sequences_in};
 ghost use Rattle.map_answers.specs.Answer.{row};
 ghost use Rattle.audit_model.specs.Observing.{no_work};
 ghost use Rattle.audit_model.specs.Calls.{mapping_row};
 ghost use Rattle.audit_observe_read.specs.Observed.{way_if, Observable, ReadPassed, ReadObserved};
 
 use audit_model::settings::Settings;
+use index_columns::LentIndex;
 use index_lookup::lookup::NOWHERE;
-use map_answers::answer::{MapAnswer, Mapping, ReadState};
+use index_model::ranked::RankedTargets;
+use map_answers::answer::{Mapping, ReadState};
 use map_by_index::work::work_of;
 use map_every_start::visit::Tally;
 use map_search::{search_every_start, search_part};
+use promises::refusal::Refusal;
 
 // The answer for a read that is not searched.
 fn unsearched(remap: bool) -> Mapping
@@ -47,36 +50,28 @@ pub fn search_read(
     entries: &mut [u64],
     from: usize,
     width: usize,
-    bases: &[u8],
-    ends: &[usize],
-    ranked: &[usize],
-    keys: &[u64],
-    ranks: &[u64],
-    positions: &[u64],
+    targets: RankedTargets<'_>,
+    index: LentIndex<'_>,
     indexed: bool,
     q: usize,
     read: &[u8],
     searched: bool,
     settings: Settings,
-) -> MapAnswer
-    requires observable { Observable indexed q bases.now ends.now ranked.now keys.now ranks.now positions.now × ReadPassed searched read.now }
+) -> Result<Mapping, Refusal>
+    requires observable { Observable indexed q targets.bases.now targets.ends.now targets.ranked.now index.keys.now index.ranks.now index.positions.now × ReadPassed searched read.now }
     requires width_in_bounds { from + width ≤ length entries.old }
-    ensures { ReadObserved settings (lent_sequences bases.now ends.now ranked.now) (way_if indexed q) ranked.now read.now searched from width result entries.old entries.new }
+    ensures { ReadObserved settings (sequences_in targets.entry) (way_if indexed q) targets.entry.ranked.now read.now searched from width result entries.old entries.new }
 {
     if !searched {
-        return MapAnswer::Mapped(unsearched(settings.remap));
+        return Ok(unsearched(settings.remap));
     }
     if indexed {
         return search_part(
             entries,
             from,
             width,
-            bases,
-            ends,
-            ranked,
-            keys,
-            ranks,
-            positions,
+            targets,
+            index,
             q,
             read,
             settings.limit,
@@ -85,12 +80,5 @@ pub fn search_read(
         );
     }
     let end = from + width;
-    search_every_start(
-        &mut entries[from..end],
-        bases,
-        ends,
-        ranked,
-        read,
-        settings.limit,
-    )
+    search_every_start(&mut entries[from..end], targets, read, settings.limit)
 }

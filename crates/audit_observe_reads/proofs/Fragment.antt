@@ -1,4 +1,7 @@
 -- The reads of a fragment observed one after the other.
+use Rattle.std.specs.Prelude.{Result, Ok, Err}
+use Rattle.promises.specs.declared.refusal.Refusal.{Refusal}
+use Rattle.promises.specs.declared.refusal.Refusal.TheVariants as refusals
 use mathlib.Core.Path.{◌≡◌, refl, sym, ap, ap₂, ◌∙◌}
 use mathlib.Core.Bool.{Bool}
 use mathlib.Core.List.{List, [], ◌∷◌, map}
@@ -6,12 +9,10 @@ use Prim.Native.Nat.{ℕ, suc, ◌+◌, ◌*◌, ◌/◌, ◌≤◌}
 use native.Mathlib.Omega.{arith}
 use lib.ListN.{length, take, drop}
 use lib.Dec.{ltb}
-use types.Run.{OneOf, miss}
-use denote.Enum.Declared.{tag_of}
 use Rattle.lists.specs.Cut.{window}
 use Rattle.lists.proofs.Cut.{length-window}
 use Rattle.lists.proofs.Cases.{by_test}
-use Rattle.promises.specs.Refusal.{accepted, outcome}
+use Rattle.promises.specs.Refusal.{refusal_number, accepted, outcome}
 use Rattle.promises.proofs.Refusing.{or_none, outcome_accepted, outcome_number}
 use Rattle.buffers.specs.Placed.{placed}
 use Rattle.buffers.proofs.Placed.{placed-behind}
@@ -19,14 +20,11 @@ use Rattle.map_every_start.specs.Entries.{entry_count, cleared}
 use Rattle.map_every_start.proofs.Going.{length-entries}
 use Rattle.map_by_index.specs.Work.{Way}
 use Rattle.map_answers.specs.Answer.{Row, answer_of, room_refusal}
-use Rattle.map_answers.specs.declared.answer.MapAnswer.{MapAnswer}
-use Rattle.map_answers.specs.declared.answer.MapAnswer.TheVariants as answers
 use Rattle.map_answers.specs.declared.answer.Mapping.{Mapping}
 use Rattle.map_answers.proofs.Concluding.{length-cleared}
 use Rattle.map_search.proofs.Parts.{listed-room}
-use Rattle.audit_model.specs.declared.calls.FragmentAnswer.{FragmentAnswer}
-use Rattle.audit_model.specs.declared.calls.FragmentAnswer.TheVariants as fragments
-use Rattle.audit_model.specs.contracts.calls.FragmentAnswer.{the_type}
+use Rattle.audit_model.specs.declared.calls.FragmentRows.{FragmentRows}
+use Rattle.audit_model.specs.declared.calls.FragmentRows.TheVariants as fragments
 use Rattle.audit_model.specs.declared.settings.AuditInputMode.{AuditInputMode}
 use Rattle.audit_model.specs.declared.settings.AuditInputMode.TheVariants as modes
 use Rattle.audit_model.specs.declared.settings.Settings.{Settings}
@@ -79,10 +77,9 @@ module _ {A : Type 0} (f : A → ℕ) (x y : A) where
   none_of_mode m k e = rw (k, e)
 
 -- an answer that is not a refusal
-pub not_refused : (r : FragmentAnswer) (n : ℕ) (rows : List Row) → OneOf (1 ∷ 2 ∷ []) (tag_of the_type r) → fragment_outcome r ≡ outcome n rows → n ≡ 0
-not_refused (fragments.Refused k) n rows t e = absurd (miss (1 ∷ 2 ∷ []) 0 tt t)
-not_refused (fragments.Single m) n rows t e = (outcome_accepted n rows (mapping_row m ∷ []) (sym e)).0
-not_refused (fragments.Paired m) n rows t e = (outcome_accepted n rows (mapping_row m.first ∷ mapping_row m.second ∷ []) (sym e)).0
+pub not_refused : (a : FragmentRows) (n : ℕ) (rows : List Row) → fragment_outcome (Ok a) ≡ outcome n rows → n ≡ 0
+not_refused (fragments.Single m) n rows e = (outcome_accepted n rows (mapping_row m ∷ []) (sym e)).0
+not_refused (fragments.Paired m) n rows e = (outcome_accepted n rows (mapping_row m.first ∷ mapping_row m.second ∷ []) (sym e)).0
 
 -- ---- the reads of a fragment, in entries that were set to zero
 
@@ -119,7 +116,7 @@ module _ (s : Settings) (ss : List (List ℕ)) (way : Way) (ranked : List ℕ) (
   one_fits : 0 + width ≤ 4 * entry_count b
   one_fits = omega (arith, share_within s.mode (entry_count b))
 
-  module _ (r : MapAnswer) (b₂ : List ℕ) (observed : ReadObserved s ss way ranked first f 0 (4 * share) r b₁ b₂) where
+  module _ (r : Result Mapping Refusal) (b₂ : List ℕ) (observed : ReadObserved s ss way ranked first f 0 (4 * share) r b₁ b₂) where
     here : ReadObserved s ss way ranked first f 0 width r (cleared b) b₂
     here = rw (← share_is, ← zeros) observed
 
@@ -134,14 +131,14 @@ module _ (s : Settings) (ss : List (List ℕ)) (way : Way) (ranked : List ℕ) (
         rw here.entries (within_placed b (cleared b) (within_zeros b) 0 (left_in s ss ranked first f (window (cleared b) 0 width)) (omega (arith, one_fits, l, n)))
 
     -- the first read is refused
-    pub one_refused : (n : ℕ) → r ≡ answers.Refused n → (k : ℕ) → k ≡ 10 → (b₃ : List ℕ) → b₃ ≡ cleared b₂ → ReadsObserved s ss way ranked (observed_reads s f first g second) (fragments.Refused k) b b₃
-    one_refused n e k d b₃ z =
-        let t = outcome_number (room x) n (observed_row s ss way x) (sym said ∙ ap answer_of e) in
+    pub one_refused : (e : Refusal) → r ≡ Err e → (b₃ : List ℕ) → b₃ ≡ cleared b₂ → ReadsObserved s ss way ranked (observed_reads s f first g second) (Err refusals.PlacementRoom) b b₃
+    one_refused e told b₃ z =
+        let t = outcome_number (room x) (refusal_number e) (observed_row s ss way x) (sym said ∙ ap answer_of told) in
         let u : room x ≡ 10 = ten (share_of s.mode (entry_count b)) s.limit (length (observed_groups s ss x)) (λ v. t.1 (sym t.0 ∙ v)) in
         let q : first_refusal room (by_mode s.mode x y) ≡ 10 = first_of_mode room x y s.mode 9 u in
-        record { answer = rw (q, d); entries = rw q (z ∙ within_cleared b b₂ first_within) }
+        record { answer = rw q; entries = rw q (z ∙ within_cleared b b₂ first_within) }
 
-    module _ (m : Mapping) (e : r ≡ answers.Mapped m) where
+    module _ (m : Mapping) (e : r ≡ Ok m) where
       one_said : (room x ≡ 0) × (observed_row s ss way x ≡ mapping_row m)
       one_said = outcome_accepted (room x) (observed_row s ss way x) (mapping_row m) (sym said ∙ ap answer_of e)
 
@@ -151,7 +148,7 @@ module _ (s : Settings) (ss : List (List ℕ)) (way : Way) (ranked : List ℕ) (
           here.entries ∙ left_written s ss ranked first 0 width (cleared b) (omega (arith, one_fits, length-cleared b)) f (zero_part 0 one_fits (cleared b) (length-cleared b) refl) (ap (λ n. observed_room s ss n x) c ∙ one_said.0)
 
       -- a read alone
-      pub one_mapped : s.mode ≡ modes.SingleEnd → ReadsObserved s ss way ranked (observed_reads s f first g second) (fragments.Single m) b b₂
+      pub one_mapped : s.mode ≡ modes.SingleEnd → ReadsObserved s ss way ranked (observed_reads s f first g second) (Ok (fragments.Single m)) b b₂
       one_mapped k =
           let q : first_refusal room (by_mode s.mode x y) ≡ 0 = none_of_mode room x y s.mode k one_said.0 in
           record { answer = rw q (single s.mode k); entries = rw q (one_written ∙ alone s.mode k) }
@@ -163,7 +160,7 @@ module _ (s : Settings) (ss : List (List ℕ)) (way : Way) (ranked : List ℕ) (
           alone mode k = rw k
 
       -- a pair
-      module _ (k : s.mode ≡ modes.PairedEnd) (r₂ : FragmentAnswer) (b₃ : List ℕ) (observed₂ : SecondObserved s ss way ranked second g (4 * share) m r₂ b₂ b₃) where
+      module _ (k : s.mode ≡ modes.PairedEnd) (r₂ : Result FragmentRows Refusal) (b₃ : List ℕ) (observed₂ : SecondObserved s ss way ranked second g (4 * share) m r₂ b₂ b₃) where
         two_fit : width + width ≤ 4 * entry_count b
         two_fit = omega (arith, shares_within s.mode (entry_count b) k)
 
@@ -199,21 +196,21 @@ module _ (s : Settings) (ss : List (List ℕ)) (way : Way) (ranked : List ℕ) (
             rw there.entries (within_placed b b₂ first_within width (left_in s ss ranked second g (window b₂ width width)) (omega (arith, two_fit, l, n)))
 
         -- the second read is refused
-        pub two_refused : (n : ℕ) → r₂ ≡ fragments.Refused n → (b₄ : List ℕ) → b₄ ≡ cleared b₃ → ReadsObserved s ss way ranked (observed_reads s f first g second) (fragments.Refused n) b b₄
-        two_refused n e₂ b₄ z =
-            let t = outcome_number (room y) n (mapping_row m ∷ observed_row s ss way y ∷ []) (sym said₂ ∙ ap fragment_outcome e₂) in
+        pub two_refused : (e₂ : Refusal) → r₂ ≡ Err e₂ → (b₄ : List ℕ) → b₄ ≡ cleared b₃ → ReadsObserved s ss way ranked (observed_reads s f first g second) (Err e₂) b b₄
+        two_refused e₂ told b₄ z =
+            let t = outcome_number (room y) (refusal_number e₂) (mapping_row m ∷ observed_row s ss way y ∷ []) (sym said₂ ∙ ap fragment_outcome told) in
             let u : room y ≡ 10 = ten (share_of s.mode (entry_count b)) s.limit (length (observed_groups s ss y)) (λ v. t.1 (sym t.0 ∙ v)) in
             let q : first_refusal room (by_mode s.mode x y) ≡ 10 = rooms ∙ u in
-            record { answer = ap fragment_outcome (sym e₂) ∙ two_said; entries = rw q (z ∙ within_cleared b b₃ second_within) }
+            record { answer = ap fragment_outcome (sym told) ∙ two_said; entries = rw q (z ∙ within_cleared b b₃ second_within) }
 
         -- both are mapped
-        pub two_mapped : OneOf (1 ∷ 2 ∷ []) (tag_of the_type r₂) → ReadsObserved s ss way ranked (observed_reads s f first g second) r₂ b b₃
-        two_mapped t =
-            let u : room y ≡ 0 = not_refused r₂ (room y) (mapping_row m ∷ observed_row s ss way y ∷ []) t said₂ in
+        pub two_mapped : (rows : FragmentRows) → r₂ ≡ Ok rows → ReadsObserved s ss way ranked (observed_reads s f first g second) (Ok rows) b b₃
+        two_mapped rows told =
+            let u : room y ≡ 0 = not_refused rows (room y) (mapping_row m ∷ observed_row s ss way y ∷ []) (ap fragment_outcome (sym told) ∙ said₂) in
             let q : first_refusal room (by_mode s.mode x y) ≡ 0 = rooms ∙ u in
             let c = count width two_fit b₂ first_within.same in
             let w = left_written s ss ranked second width width b₂ (omega (arith, two_fit, first_within.same)) g (zero_part width two_fit b₂ first_within.same second_part) (ap (λ n. observed_room s ss n y) c ∙ u) in
-            record { answer = two_said; entries = rw q (there.entries ∙ w ∙ ap (λ l. placed width (observed_entries s ss ranked y) l) one_written ∙ both_parts s.mode k) }
+            record { answer = ap fragment_outcome (sym told) ∙ two_said; entries = rw q (there.entries ∙ w ∙ ap (λ l. placed width (observed_entries s ss ranked y) l) one_written ∙ both_parts s.mode k) }
           where
             both_parts : (mode : AuditInputMode) → mode ≡ modes.PairedEnd → placed width (observed_entries s ss ranked y) (placed 0 (observed_entries s ss ranked x) (cleared b)) ≡ in_parts width 0 (map (observed_entries s ss ranked) (by_mode mode x y)) (cleared b)
             both_parts mode k =

@@ -1,21 +1,20 @@
 -- What an opening leaves: its answer, the state and the counters.
+use Rattle.std.specs.Prelude.{Result, Ok, Err}
+use Rattle.promises.specs.declared.refusal.Refusal.{Refusal}
 use mathlib.Core.Path.{◌≡◌, refl, sym, ap, ap₂, ◌∙◌}
 use mathlib.Core.List.{List, ◌++◌, append-nil}
-use Prim.Native.Nat.{ℕ, zero, suc, ◌+◌, ◌≤◌}
+use Prim.Native.Nat.{ℕ, zero, suc, ◌+◌}
 use native.Mathlib.Omega.{arith}
 use lib.ListN.{length, drop, replicate, length-replicate}
 use lib.Seq.{drop-length}
-use Rattle.promises.specs.Refusal.{if_passed}
+use Rattle.promises.specs.Refusal.{refusal_number, if_passed}
 use Rattle.promises.proofs.Refusing.{outcome_refused, outcome_accepted, outcome_number}
 use Rattle.catalogue.specs.Catalogue.{Catalogue, targets, mapped}
 use Rattle.catalogue.specs.Ranking.{ranking_outcome}
-use Rattle.catalogue.specs.declared.ranks.Ranking.{Ranking}
-use Rattle.catalogue.specs.declared.ranks.Ranking.TheVariants.{Refused, Ranked}
 use Rattle.buffers.specs.Placed.{placed}
 use Rattle.audit_ledger.specs.Booking.{Counters, empty_counters, counters_of}
 use Rattle.audit_model.specs.declared.settings.Settings.{Settings}
 use Rattle.audit_model.specs.declared.settings.AuditState.{AuditState}
-use Rattle.audit_model.specs.declared.calls.CallAnswer.TheVariants as calls
 use Rattle.audit_model.specs.Settings.{Held, fresh_state, zero_state}
 use Rattle.audit_model.specs.Opening.{IndexLent, opening_refusal, unopened, started}
 use Rattle.audit_model.specs.Calls.{Opens}
@@ -29,9 +28,10 @@ abbrev held : AuditState → Counters → Held
 held state k = record { state = state; counters = k }
 
 module _ (q offset : ℕ) (c : Catalogue) (lent : IndexLent) (s : Settings) (k : Counters) where
-  module _ (r : Ranking) (buffer : List ℕ) (h : OpeningRanked q offset c lent s k r buffer) where
-    pub opening_refused : (n : ℕ) → r ≡ Refused n → (state : AuditState) → state ≡ zero_state → (k' : Counters) → k' ≡ k → Opens q offset c lent s k (record { answer = calls.Refused n; state = state }) k'
-    opening_refused n told state e k' f =
+  module _ (r : Result ℕ Refusal) (buffer : List ℕ) (h : OpeningRanked q offset c lent s k r buffer) where
+    pub opening_refused : (refusal : Refusal) → r ≡ Err refusal → (state : AuditState) → state ≡ zero_state → (k' : Counters) → k' ≡ k → Opens q offset c lent s k (record { answer = Err refusal; state = state }) k'
+    opening_refused refusal told state e k' f =
+        let n : ℕ = refusal_number refusal in
         let w = outcome_number (opening_refusal q offset c lent s k) n (length (mapped c)) (sym h.answer ∙ ap ranking_outcome told) in
         record {
           answer = rw w.0 (outcome_refused n tt w.1);
@@ -42,9 +42,9 @@ module _ (q offset : ℕ) (c : Catalogue) (lent : IndexLent) (s : Settings) (k :
         go zero ne = absurd (ne refl)
         go (suc m) ne = refl
 
-    pub opening_done : (j : ℕ) → r ≡ Ranked j → (state : AuditState) → state ≡ fresh_state s → (ps ss ms : List ℕ)
+    pub opening_done : (j : ℕ) → r ≡ Ok j → (state : AuditState) → state ≡ fresh_state s → (ps ss ms : List ℕ)
         → ps ≡ replicate (length k.placements) 0 → ss ≡ replicate (length k.singles) 0 → ms ≡ replicate (length k.multi) 0
-        → Opens q offset c lent s k (record { answer = calls.Accepted; state = state }) (counters_of ps ss ms)
+        → Opens q offset c lent s k (record { answer = Ok tt; state = state }) (counters_of ps ss ms)
     opening_done j told state e ps ss ms zp zs zm =
         let w = outcome_accepted (opening_refusal q offset c lent s k) (length (mapped c)) j (sym h.answer ∙ ap ranking_outcome told) in
         let n = each_counter (length (targets c)) k (opening_passed q offset c lent s k w.0).counters in

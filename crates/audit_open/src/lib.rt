@@ -3,18 +3,19 @@
 
 ghost use Rattle.std.specs.Prelude.{◌≡◌, ◌≤◌, length, replicate};
 ghost use Rattle.bases.specs.Eligibility.{last_quality};
-ghost use Rattle.catalogue.specs.Catalogue.{lent_catalogue};
+ghost use Rattle.catalogue.specs.Catalogue.{catalogue_in};
 ghost use Rattle.index_seeds.specs.Key.{SeedLength};
 ghost use Rattle.audit_ledger.specs.Booking.{lent_counters, left_counters};
 ghost use Rattle.audit_model.specs.Settings.{fresh_state, zero_state};
 ghost use Rattle.audit_model.specs.Calls.{lent_index, Opens};
 
 use audit_checks::check_opening;
-use audit_ledger::Ledger;
-use audit_model::calls::{CallAnswer, Opening};
-use audit_model::settings::{AuditInputMode, AuditState, LastOrdinal, Settings};
+use audit_ledger::{Ledger, LentCounters};
+use audit_model::calls::Opening;
+use audit_model::settings::{AuditInputMode, AuditState, Settings};
 use buffers::clear;
-use catalogue::ranks::Ranking;
+use catalogue::lent::LentCatalogue;
+use index_columns::LentIndex;
 
 // A state with nothing booked.
 pub fn fresh_state(settings: Settings) -> AuditState
@@ -22,7 +23,7 @@ pub fn fresh_state(settings: Settings) -> AuditState
 {
     AuditState {
         settings,
-        last: LastOrdinal::Absent,
+        last: None,
         ledger: Ledger {
             table: [0; 18],
             reads: [0; 3],
@@ -59,53 +60,43 @@ pub fn open_audit(
     placements: &mut [u64],
     singles: &mut [u64],
     multi: &mut [u64],
-    keys: &[u64],
-    ranks: &[u64],
-    positions: &[u64],
-    identifiers: &[u8],
-    identifier_ends: &[usize],
-    bases: &[u8],
-    base_ends: &[usize],
-    marks: &[u8],
+    index: LentIndex<'_>,
+    catalogue: LentCatalogue<'_>,
     indexed: bool,
     q: usize,
     offset: u8,
     settings: Settings,
 ) -> Opening
     requires { SeedLength q × (offset ≤ last_quality) }
-    ensures { Opens q offset (lent_catalogue identifiers.now identifier_ends.now bases.now base_ends.now marks.now) (lent_index indexed keys.now ranks.now positions.now)
+    ensures { Opens q offset (catalogue_in catalogue.entry) (lent_index indexed index.entry.keys.now index.entry.ranks.now index.entry.positions.now)
         settings (lent_counters placements.old singles.old multi.old) result (left_counters placements.new singles.new multi.new) }
 {
     let mut ranked = [0usize; 4096];
     let ranking = check_opening(
         &mut ranked,
-        placements,
-        singles,
-        multi,
-        keys,
-        ranks,
-        positions,
-        identifiers,
-        identifier_ends,
-        bases,
-        base_ends,
-        marks,
+        LentCounters {
+            placements,
+            singles,
+            multi,
+        },
+        index,
+        catalogue,
         indexed,
         q,
         offset,
         settings,
     );
     match ranking {
-        Ranking::Refused(n) => Opening {
-            answer: CallAnswer::Refused(n),
+        Err(refusal) => Opening {
+            answer: Err(refusal),
             state: zero_state(),
         },
-        Ranking::Ranked(k) => {
+        Ok(_) => {
             zero_numbers(placements);
             zero_numbers(singles);
             zero_numbers(multi);
             Opening {
-                answer: CallAnswer::Accepted,
+                answer: Ok(()),
                 state: fresh_state(settings),
             }
         }

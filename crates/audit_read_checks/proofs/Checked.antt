@@ -1,42 +1,35 @@
 -- From the tests of a read to the answer of its check, and from the answers of two checks to that of both.
+use Rattle.std.specs.Prelude.{Result, Ok, Err}
+use Rattle.promises.specs.declared.refusal.Refusal.{Refusal}
 use mathlib.Core.Path.{◌≡◌, refl, sym, ap, ◌∙◌}
-use mathlib.Core.Bool.{Bool, true, false, not, cond, ◌&&◌}
+use mathlib.Core.Bool.{Bool, true, false, not}
 use Prim.Native.Nat.{ℕ, zero, suc}
-use Rattle.promises.specs.Refusal.{unless, ◌or_else◌, Outcome, refused, accepted, outcome}
-use Rattle.promises.proofs.Refusing.{outcome_accepted, outcome_number}
+use Rattle.promises.specs.Refusal.{refusal_number, Outcome, refused, accepted, outcome}
+use Rattle.promises.proofs.Refusing.{outcome_accepted, outcome_refused, outcome_number, numbered}
 use Rattle.bases.specs.Read.{Read}
-use Rattle.bases.specs.Eligibility.{Verdict, verdict_of, eligibility}
-use Rattle.bases.specs.declared.eligibility.Eligibility.{Eligibility}
+use Rattle.bases.specs.Eligibility.{verdict_of, eligibility}
 use Rattle.map_answers.specs.Bounds.{length_right}
 use Rattle.audit_model.specs.declared.settings.AuditInputMode.{AuditInputMode}
 use Rattle.audit_model.specs.declared.settings.AuditInputMode.TheVariants as modes
 use Rattle.audit_model.specs.declared.settings.MateRole.{MateRole}
 use Rattle.audit_model.specs.declared.settings.Settings.{Settings}
-use Rattle.audit_model.specs.Observing.{MateRead, verdict_refusal, is_eligible, mate_refusal, is_searched}
+use Rattle.audit_model.specs.Observing.{MateRead, mate_refusal, is_searched}
 use Rattle.audit_model.specs.Fragment.{first_refusal}
 use Rattle.audit_read_checks.specs.Checks.{check_outcome, ReadChecked, by_mode, if_paired}
-use Rattle.audit_read_checks.specs.declared.ReadCheck.{ReadCheck}
-use Rattle.audit_read_checks.specs.declared.ReadCheck.TheVariants as checks
 
 -- ---- one read
 
-module _ (offset : ℕ) (s : Settings) (read : Read) (right on : Bool) (length_tested : right ≡ length_right read.bases) (remap_tested : on ≡ s.remap) where
-  -- what the tests of a read say is what is asked of it
-  pub checked : (v : Verdict) → v ≡ eligibility s.floor offset read → (o : Outcome Bool)
-      → o ≡ outcome (cond (not right) 7 (cond (not on) 0 (verdict_refusal v))) (cond (not on) false (is_eligible v))
-      → (role : MateRole) → o ≡ outcome (mate_refusal offset s (record { role = role; read = read })) (is_searched offset s (record { role = role; read = read }))
-  checked v e o k role = rw (← length_tested, ← remap_tested, ← e) (k ∙ same right on)
-    where
-      same : (right on : Bool) → outcome (cond (not right) 7 (cond (not on) 0 (verdict_refusal v))) (cond (not on) false (is_eligible v)) ≡ outcome (unless right 7 or_else cond on (verdict_refusal v) 0) (on && is_eligible v)
-      same true true = refl
-      same true false = refl
-      same false on = refl
+-- a test passes where it does not fail
+pub held : (b : Bool) → not b ≡ false → b ≡ true
+held true e = refl
+held false e = sym e
 
-  -- where it was judged
-  pub judged : (d e : Eligibility) → d ≡ e → verdict_of d ≡ eligibility s.floor offset read → (o : Outcome Bool)
-      → o ≡ outcome (cond (not right) 7 (cond (not on) 0 (verdict_refusal (verdict_of e)))) (cond (not on) false (is_eligible (verdict_of e)))
-      → (role : MateRole) → o ≡ outcome (mate_refusal offset s (record { role = role; read = read })) (is_searched offset s (record { role = role; read = read }))
-  judged d e t v o k = checked (verdict_of e) (ap verdict_of (sym t) ∙ v) o k
+module _ (offset : ℕ) (s : Settings) (read : Read) (right : length_right read.bases ≡ true) (on : s.remap ≡ true) where
+  -- where it is judged, what is decided of it is the answer
+  pub judged : (r : Result Bool Refusal) → verdict_of r ≡ eligibility s.floor offset read → ReadChecked offset s read r
+  judged (Err e) t role = rw (right, on, ← t) (outcome_refused (refusal_number e) false (numbered e))
+  judged (Ok true) t role = rw (right, on, ← t)
+  judged (Ok false) t role = rw (right, on, ← t)
 
 -- ---- two reads
 
@@ -69,13 +62,13 @@ module _ (f : MateRead → ℕ) (g : MateRead → Bool) (x y : MateRead) where
     pub pair_passed : (d : Bool) → accepted d ≡ outcome (f y) (g y) → (m : AuditInputMode) → m ≡ modes.PairedEnd → accepted (b, d) ≡ answered m
     pair_passed d e m k = let r = outcome_accepted (f y) (g y) d (sym e) in rw (k, one.0, one.1, r.0, r.1)
 
-module _ (offset : ℕ) (s : Settings) (read : Read) (r : ReadCheck) (c : ReadChecked offset s read r) (role : MateRole) where
+module _ (offset : ℕ) (s : Settings) (read : Read) (r : Result Bool Refusal) (c : ReadChecked offset s read r) (role : MateRole) where
   abbrev mate : MateRead
   mate = record { role = role; read = read }
 
   -- what an answer that is known says of its read
-  pub refused_by : (n : ℕ) → r ≡ checks.Refused n → refused n ≡ outcome (mate_refusal offset s mate) (is_searched offset s mate)
-  refused_by n e = ap check_outcome (sym e) ∙ c role
+  pub refused_by : (e : Refusal) → r ≡ Err e → refused (refusal_number e) ≡ outcome (mate_refusal offset s mate) (is_searched offset s mate)
+  refused_by e told = ap check_outcome (sym told) ∙ c role
 
-  pub passed_by : (b : Bool) → r ≡ checks.Passed b → accepted b ≡ outcome (mate_refusal offset s mate) (is_searched offset s mate)
+  pub passed_by : (b : Bool) → r ≡ Ok b → accepted b ≡ outcome (mate_refusal offset s mate) (is_searched offset s mate)
   passed_by b e = ap check_outcome (sym e) ∙ c role

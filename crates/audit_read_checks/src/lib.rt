@@ -5,27 +5,15 @@ ghost use Rattle.bases.specs.Read.{read_of};
 ghost use Rattle.audit_read_checks.specs.Checks.{ReadChecked, ReadsChecked};
 
 use audit_model::settings::{AuditInputMode, Settings};
-use bases::eligibility::{Eligibility, judge_read};
+use bases::eligibility::judge_read;
 use map_answers::bounds::length_right;
-
-// A read is refused, or it is searched or not.
-#[derive(Clone, Copy)]
-pub enum ReadCheck {
-    Refused(u64),
-    Passed(bool),
-}
+use promises::refusal::Refusal;
 
 // Which of two reads are searched.
 #[derive(Clone, Copy)]
 pub struct SearchedReads {
     pub first: bool,
     pub second: bool,
-}
-
-#[derive(Clone, Copy)]
-pub enum ReadsCheck {
-    Refused(u64),
-    Passed(SearchedReads),
 }
 
 // Checks a read.
@@ -35,24 +23,16 @@ pub fn check_read(
     present: bool,
     settings: Settings,
     offset: u8,
-) -> ReadCheck
+) -> Result<bool, Refusal>
     ensures { ReadChecked offset settings (read_of bases.now present qualities.now) result }
 {
-    let right = length_right(bases);
-    let remap = settings.remap;
-    if !right {
-        return ReadCheck::Refused(7);
+    if !length_right(bases) {
+        return Err(Refusal::ReadLength);
     }
-    if !remap {
-        return ReadCheck::Passed(false);
+    if !settings.remap {
+        return Ok(false);
     }
-    match judge_read(bases, qualities, present, settings.floor, offset) {
-        Eligibility::EmptyRead => ReadCheck::Refused(14),
-        Eligibility::QualityLength => ReadCheck::Refused(15),
-        Eligibility::PhredByte => ReadCheck::Refused(16),
-        Eligibility::Ineligible => ReadCheck::Passed(false),
-        Eligibility::Eligible => ReadCheck::Passed(true),
-    }
+    judge_read(bases, qualities, present, settings.floor, offset)
 }
 
 // Checks the reads of a fragment: the first, and in a pair then the second.
@@ -65,28 +45,19 @@ pub fn check_reads(
     second_present: bool,
     settings: Settings,
     offset: u8,
-) -> ReadsCheck
+) -> Result<SearchedReads, Refusal>
     ensures { ReadsChecked offset settings (read_of first.now first_present first_qualities.now) (read_of second.now second_present second_qualities.now) result }
 {
-    let mode = settings.mode;
-    let one = check_read(first, first_qualities, first_present, settings, offset);
-    match one {
-        ReadCheck::Refused(n) => ReadsCheck::Refused(n),
-        ReadCheck::Passed(searched) => {
-            let AuditInputMode::PairedEnd = mode else {
-                return ReadsCheck::Passed(SearchedReads {
-                    first: searched,
-                    second: false,
-                });
-            };
-            let two = check_read(second, second_qualities, second_present, settings, offset);
-            match two {
-                ReadCheck::Refused(n) => ReadsCheck::Refused(n),
-                ReadCheck::Passed(also) => ReadsCheck::Passed(SearchedReads {
-                    first: searched,
-                    second: also,
-                }),
-            }
-        }
-    }
+    let one = check_read(first, first_qualities, first_present, settings, offset)?;
+    let AuditInputMode::PairedEnd = settings.mode else {
+        return Ok(SearchedReads {
+            first: one,
+            second: false,
+        });
+    };
+    let two = check_read(second, second_qualities, second_present, settings, offset)?;
+    Ok(SearchedReads {
+        first: one,
+        second: two,
+    })
 }

@@ -1,4 +1,5 @@
 -- The roles of a fragment's reads, by mode and number.
+use Rattle.std.specs.Prelude.{Option}
 use mathlib.Core.Path.{◌≡◌, refl, sym, ap, ◌∙◌}
 use mathlib.Core.Bool.{true, false, ◌&&◌, and-true, and-false}
 use Prim.Native.Nat.{ℕ, zero, suc}
@@ -6,7 +7,6 @@ use lib.Dec.{eqb}
 use borrow.Author.Tests.{ne_eqb, eq-eqb}
 use Rattle.audit_model.specs.declared.settings.AuditInputMode.{AuditInputMode}
 use Rattle.audit_model.specs.declared.settings.AuditInputMode.TheVariants as modes
-use Rattle.audit_model.specs.declared.settings.LastOrdinal.{LastOrdinal}
 use Rattle.audit_model.specs.Fragment.{in_order}
 use Rattle.audit_roles.specs.Order.{roles_fit, order_refusal}
 
@@ -39,7 +39,7 @@ module _ (mode : AuditInputMode) (count first second : ℕ) where
   pub two_reads : mode ≡ modes.PairedEnd → count ≡ 2 → (a : ℕ) → a ≡ first → a ≡ 1 → (b : ℕ) → b ≡ second → eqb b 2 ≡ roles_fit mode count first second
   two_reads e f a g h b i = rw (e, f, i) (sym (and-true (eqb second 2)) ∙ sym (ap (λ t. t && (eqb second 2 && true)) (eq-eqb first 1 (sym g ∙ h))))
 
-module _ (last : LastOrdinal) (ordinal : ℕ) (mode : AuditInputMode) (count first second : ℕ) where
+module _ (last : Option ℕ) (ordinal : ℕ) (mode : AuditInputMode) (count first second : ℕ) where
   pub twelve : in_order last ordinal ≡ false → {n : ℕ} → n ≡ 12 → n ≡ order_refusal last ordinal mode count first second
   twelve e f = rw e f
 

@@ -1,9 +1,8 @@
 -- The order and the roles of a fragment, by numbers (REFERENCE.md, "Fragment").
-use Rattle.std.specs.Prelude.{Bool, List, [], ◌∷◌, ℕ, zero, suc, replicate}
+use Rattle.std.specs.Prelude.{Bool, List, [], ◌∷◌, ℕ, zero, suc, replicate, Option}
 use Rattle.lists.specs.Same.{same}
 use Rattle.promises.specs.Refusal.{unless, ◌or_else◌}
 use Rattle.audit_model.specs.declared.settings.AuditInputMode.{AuditInputMode}
-use Rattle.audit_model.specs.declared.settings.LastOrdinal.{LastOrdinal}
 use Rattle.audit_model.specs.Settings.{roles_of}
 use Rattle.audit_model.specs.Fragment.{in_order}
 
@@ -16,5 +15,5 @@ abbrev pub roles_fit : AuditInputMode → ℕ → ℕ → ℕ → Bool
 roles_fit mode count first second = same (lent_roles count first second) (roles_of mode)
 
 -- 12 and 13
-abbrev pub order_refusal : LastOrdinal → ℕ → AuditInputMode → ℕ → ℕ → ℕ → ℕ
+abbrev pub order_refusal : Option ℕ → ℕ → AuditInputMode → ℕ → ℕ → ℕ → ℕ
 order_refusal last ordinal mode count first second = unless (in_order last ordinal) 12 or_else unless (roles_fit mode count first second) 13

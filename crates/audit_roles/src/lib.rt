@@ -5,17 +5,19 @@ ghost use Rattle.std.specs.Prelude.{◌≡◌};
 ghost use Rattle.audit_model.specs.Settings.{role_number};
 ghost use Rattle.audit_model.specs.Fragment.{in_order};
 ghost use Rattle.audit_roles.specs.Order.{roles_fit, order_refusal};
+ghost use Rattle.promises.specs.Refusal.{test_number};
 
 use audit_codes::role_number;
-use audit_model::settings::{AuditInputMode, LastOrdinal, MateRole};
+use audit_model::settings::{AuditInputMode, MateRole};
+use promises::refusal::Refusal;
 
 // Whether an ordinal is above the last accepted one: 12 where it is not.
-fn in_order(last: LastOrdinal, ordinal: u64) -> bool
+fn in_order(last: Option<u64>, ordinal: u64) -> bool
     ensures { result ≡ in_order last ordinal }
 {
     match last {
-        LastOrdinal::Absent => true,
-        LastOrdinal::Accepted(n) => n < ordinal,
+        None => true,
+        Some(n) => n < ordinal,
     }
 }
 
@@ -49,25 +51,23 @@ fn validate_fragment_roles(
     }
 }
 
-// 12 and 13, or 0.
+// Tests the order and the roles: 12 and 13, or none.
 #[tactic(auto, using(crate::proofs::Roles::twelve, crate::proofs::Roles::thirteen, crate::proofs::Roles::in_place))]
-pub fn order_refusal(
-    last: LastOrdinal,
+pub fn check_order(
+    last: Option<u64>,
     ordinal: u64,
     mode: AuditInputMode,
     count: usize,
     first: MateRole,
     second: MateRole,
-) -> u64
-    ensures { result ≡ order_refusal last ordinal mode count (role_number first) (role_number second) }
+) -> Result<(), Refusal>
+    ensures { test_number result ≡ order_refusal last ordinal mode count (role_number first) (role_number second) }
 {
-    let ordered = in_order(last, ordinal);
-    let fits = validate_fragment_roles(mode, count, first, second);
-    if !ordered {
-        return 12;
+    if !in_order(last, ordinal) {
+        return Err(Refusal::FragmentOrder);
     }
-    if !fits {
-        return 13;
+    if !validate_fragment_roles(mode, count, first, second) {
+        return Err(Refusal::MateRoles);
     }
-    0
+    Ok(())
 }

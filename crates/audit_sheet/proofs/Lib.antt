@@ -1,2 +1,0 @@
-pub mod Summing
-pub mod Telling

@@ -5,23 +5,19 @@ ghost use Rattle.lists.specs.Filter.{every};
 ghost use Rattle.audit_model.specs.Settings.{roles_of, states_shown};
 ghost use Rattle.audit_sheet.specs.Agreeing.{books_agree};
 
-use audit_ledger::{Ledger, MAX_COUNTER};
+use audit_ledger::{Ledger, LentCounters, MAX_COUNTER};
 use audit_model::settings::{AuditInputMode, Settings};
 
 // Whether numbers have a sum of 64 bits that is the total.
 pub fn sum_agrees(numbers: &[u64], total: u64) -> bool
     ensures { result ≡ agree numbers.now total }
 {
-    let n = numbers.len();
-    let mut sum: u64 = 0;
-    let mut i: usize = 0;
-    while i < n {
-        let number = numbers[i];
-        if MAX_COUNTER - sum < number {
+    let mut sum = 0;
+    for number in numbers {
+        if MAX_COUNTER - sum < *number {
             return false;
         }
-        sum += number;
-        i += 1;
+        sum += *number;
     }
     sum == total
 }
@@ -49,32 +45,18 @@ fn roles_agree(ledger: Ledger, settings: Settings) -> bool
     match mode {
         AuditInputMode::SingleEnd => role_agrees(ledger, 0, remap),
         AuditInputMode::PairedEnd => {
-            if !role_agrees(ledger, 1, remap) {
-                return false;
-            }
-            role_agrees(ledger, 2, remap)
+            role_agrees(ledger, 1, remap) && role_agrees(ledger, 2, remap)
         }
     }
 }
 
 // Whether the books agree with themselves: 18 where they do not.
-pub fn books_agree(
-    ledger: Ledger,
-    placements: &[u64],
-    singles: &[u64],
-    multi: &[u64],
-    settings: Settings,
-) -> bool
-    ensures { result ≡ books_agree settings.mode settings.remap ledger placements.now singles.now multi.now }
+#[tactic(auto, unfolding(audit_ledger::specs::Balance::balanced))]
+pub fn books_agree(ledger: Ledger, counters: LentCounters<'_>, settings: Settings) -> bool
+    ensures { result ≡ books_agree settings.mode settings.remap ledger counters.entry.placements.now counters.entry.singles.now counters.entry.multi.now }
 {
-    if !roles_agree(ledger, settings) {
-        return false;
-    }
-    if !sum_agrees(placements, ledger.placements) {
-        return false;
-    }
-    if !sum_agrees(singles, ledger.singles) {
-        return false;
-    }
-    sum_agrees(multi, ledger.multi)
+    roles_agree(ledger, settings)
+        && sum_agrees(counters.placements, ledger.placements)
+        && sum_agrees(counters.singles, ledger.singles)
+        && sum_agrees(counters.multi, ledger.multi)
 }

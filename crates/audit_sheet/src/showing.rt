@@ -4,7 +4,7 @@ ghost use Rattle.audit_model.specs.Calls.{held_of};
 ghost use Rattle.audit_model.specs.Sheet.{shown, run_status, row_shown, sheet_of};
 
 use audit_model::settings::AuditState;
-use audit_model::sheet::{Availability, PlacementTotals, Sheet, Shown, Status};
+use audit_model::sheet::{PlacementTotals, Sheet, Shown, Status};
 
 // Totals with a status: they are shown where every read was listed whole.
 pub fn shown_with(status: Status, totals: PlacementTotals) -> Shown
@@ -13,12 +13,12 @@ pub fn shown_with(status: Status, totals: PlacementTotals) -> Shown
     let Status::Complete = status else {
         return Shown {
             status,
-            totals: Availability::Unavailable,
+            totals: None,
         };
     };
     Shown {
         status,
-        totals: Availability::Available(totals),
+        totals: Some(totals),
     }
 }
 

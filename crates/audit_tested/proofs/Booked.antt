@@ -1,12 +1,12 @@
 -- An observed fragment booked.
-use mathlib.Core.Path.{◌≡◌, refl, sym, ap, ap₂, subst, ◌∙◌}
+use Rattle.std.specs.Prelude.{Result, Ok, Err, Some}
+use Rattle.promises.specs.declared.refusal.Refusal.{Refusal}
+use mathlib.Core.Path.{◌≡◌, refl, sym, ap, ap₂, ◌∙◌}
 use mathlib.Core.Bool.{true}
-use mathlib.Core.List.{List, [], ◌∷◌, map}
+use mathlib.Core.List.{List, map}
 use Prim.Native.Nat.{ℕ, ◌*◌}
 use lib.ListN.{length}
-use types.Run.{OneOf, miss}
-use denote.Enum.Declared.{tag_of}
-use Rattle.promises.specs.Refusal.{outcome, if_passed}
+use Rattle.promises.specs.Refusal.{refusal_number, outcome, if_passed}
 use Rattle.promises.proofs.Refusing.{outcome_number}
 use Rattle.map_every_start.specs.Entries.{entry_count, cleared}
 use Rattle.map_by_index.specs.Work.{Way}
@@ -14,11 +14,8 @@ use Rattle.map_answers.specs.Bounds.{limit_right}
 use Rattle.audit_ledger.specs.Booking.{Books, Counters, booked_all}
 use Rattle.audit_ledger.specs.Counting.{Ranked}
 use Rattle.audit_book_fragment.specs.Books.{CountersLent, posted_all, books_small}
-use Rattle.audit_model.specs.declared.calls.FragmentAnswer.{FragmentAnswer}
-use Rattle.audit_model.specs.declared.calls.FragmentAnswer.TheVariants as fragments
-use Rattle.audit_model.specs.contracts.calls.FragmentAnswer.{the_type}
+use Rattle.audit_model.specs.declared.calls.FragmentRows.{FragmentRows}
 use Rattle.audit_model.specs.declared.settings.AuditState.{AuditState}
-use Rattle.audit_model.specs.declared.settings.LastOrdinal.TheVariants as ordinals
 use Rattle.audit_model.specs.declared.settings.Settings.{Settings}
 use Rattle.audit_model.specs.Settings.{Held, held_books, role_number}
 use Rattle.audit_model.specs.Observing.{MateRead, Observed, observe, observed_room, observed_entries, observed_row, mate_booked, observed_booked}
@@ -36,7 +33,7 @@ use Rattle.audit_tested.specs.Tested.{TestedObserved, TestedAudited}
 use Rattle.audit_tested.proofs.Chain.{roles_same, reads_by_mode}
 use Rattle.audit_tested.proofs.Joining.{by_mates, rooms_same, booked_same}
 
-module _ (offset : ℕ) (ss : List (List ℕ)) (way : Way) (ranked : List ℕ) (h : Held) (ordinal count : ℕ) (m m' : MateRead) (buffer entries : List ℕ) (r : FragmentAnswer)
+module _ (offset : ℕ) (ss : List (List ℕ)) (way : Way) (ranked : List ℕ) (h : Held) (ordinal count : ℕ) (m m' : MateRead) (buffer entries : List ℕ) (r : Result FragmentRows Refusal)
     (seen : TestedObserved offset ss way ranked h (fragment_of ordinal count m m') r buffer entries) where
   abbrev s : Settings
   s = h.state.settings
@@ -48,21 +45,21 @@ module _ (offset : ℕ) (ss : List (List ℕ)) (way : Way) (ranked : List ℕ) (
   refusal = tested_refusal offset ss ranked h f (entry_count buffer)
 
   -- refused, everything is held as it was
-  pub audit_refused : (n : ℕ) → r ≡ fragments.Refused n → (k : Counters) → k ≡ h.counters → TestedAudited offset ss way ranked h f (record { answer = fragments.Refused n; state = h.state }) k buffer entries
-  audit_refused n told k same =
-      let w = outcome_number refusal n (tested_rows offset ss ranked h f way) (sym seen.answer ∙ ap fragment_outcome told) in
+  pub audit_refused : (e : Refusal) → r ≡ Err e → (k : Counters) → k ≡ h.counters → TestedAudited offset ss way ranked h f (record { answer = r; state = h.state }) k buffer entries
+  audit_refused e told k same =
+      let w = outcome_number refusal (refusal_number e) (tested_rows offset ss ranked h f way) (sym seen.answer ∙ ap fragment_outcome told) in
       record {
-        observed = subst (λ a. TestedObserved offset ss way ranked h f a buffer entries) told seen;
+        observed = seen;
         held = ap {B = Held} (λ z. record { state = h.state; counters = z }) same ∙ sym (refused_holds refusal (λ z. w.1 (sym w.0 ∙ z)) (tested_accepted offset ss ranked h f) h);
       }
 
   -- accepted
-  module _ (tag : OneOf (1 ∷ 2 ∷ []) (tag_of the_type r)) where
-    accepted : (n : ℕ) → r ≡ fragments.Refused n → ⊥
-    accepted n e = miss (1 ∷ 2 ∷ []) 0 tt (subst (λ a. OneOf (1 ∷ 2 ∷ []) (tag_of the_type a)) e tag)
+  module _ (rows : FragmentRows) (is : r ≡ Ok rows) where
+    accepted : (e : Refusal) → r ≡ Err e → ⊥
+    accepted e told = cc
 
     unrefused : refusal ≡ 0
-    unrefused = not_refused r refusal (tested_rows offset ss ranked h f way) tag seen.answer
+    unrefused = not_refused rows refusal (tested_rows offset ss ranked h f way) (ap fragment_outcome (sym is) ∙ seen.answer)
 
     checked : TestedChecked offset ss way ranked h f (entry_count buffer)
     checked = tested_checked offset ss way ranked h f (entry_count buffer) unrefused
@@ -122,5 +119,5 @@ module _ (offset : ℕ) (ss : List (List ℕ)) (way : Way) (ranked : List ℕ) (
       audit_booked state k e =
           record {
             observed = seen;
-            held = e ∙ ap {B = Held} (λ (b : Books). record { state = record { settings = s; last = ordinals.Accepted ordinal; ledger = b.ledger }; counters = b.counters }) posted_is ∙ ap (λ n. if_passed n (tested_accepted offset ss ranked h f) h) (sym unrefused);
+            held = e ∙ ap {B = Held} (λ (b : Books). record { state = record { settings = s; last = Some ordinal; ledger = b.ledger }; counters = b.counters }) posted_is ∙ ap (λ n. if_passed n (tested_accepted offset ss ranked h f) h) (sym unrefused);
           }

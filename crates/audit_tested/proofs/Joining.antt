@@ -1,16 +1,17 @@
 -- The steps of a fragment joined: whichever refuses first, or what was observed.
+use Rattle.std.specs.Prelude.{Result, Err}
+use Rattle.promises.specs.declared.refusal.Refusal.{Refusal}
 use mathlib.Core.Path.{◌≡◌, refl, sym, ap, ap₂, subst, ◌∙◌}
 use mathlib.Core.Bool.{Bool, true, false}
 use mathlib.Core.List.{List, [], ◌∷◌, map}
 use Prim.Native.Nat.{ℕ, ◌*◌}
 use native.Mathlib.Omega.{arith}
-use Rattle.promises.specs.Refusal.{unless, ◌or_else◌, outcome}
-use Rattle.promises.proofs.Refusing.{stands, grouped, none_second, passed, outcome_refused}
+use Rattle.promises.specs.Refusal.{refusal_number, unless, ◌or_else◌, outcome}
+use Rattle.promises.proofs.Refusing.{stands, grouped, none_second, passed, outcome_refused, numbered}
 use Rattle.map_every_start.specs.Entries.{entry_count, cleared}
 use Rattle.map_by_index.specs.Work.{Way}
 use Rattle.audit_ledger.specs.Booking.{Booked, booked_all, countable}
-use Rattle.audit_model.specs.declared.calls.FragmentAnswer.{FragmentAnswer}
-use Rattle.audit_model.specs.declared.calls.FragmentAnswer.TheVariants as fragments
+use Rattle.audit_model.specs.declared.calls.FragmentRows.{FragmentRows}
 use Rattle.audit_model.specs.declared.settings.AuditInputMode.{AuditInputMode}
 use Rattle.audit_model.specs.declared.settings.AuditInputMode.TheVariants as modes
 use Rattle.audit_model.specs.declared.settings.Settings.{Settings}
@@ -79,15 +80,15 @@ module _ (offset : ℕ) (ss : List (List ℕ)) (way : Way) (ranked : List ℕ) (
   unfolding tested_refusal
   chain = ap (λ t. twelve or_else unless t 13 or_else rest) (roles_same s.mode count m m')
 
-  abbrev Found : FragmentAnswer → List ℕ → Type 0
+  abbrev Found : Result FragmentRows Refusal → List ℕ → Type 0
   Found r b = TestedObserved offset ss way ranked h f r buffer b
 
   -- a refusal that touches no entries
-  stays : (n : ℕ) → tested_refusal offset ss ranked h f (entry_count buffer) ≡ n → (n ≡ 0 → ⊥) → Other n → Found (fragments.Refused n) buffer
-  stays n e ne o =
+  stays : (refusal : Refusal) → tested_refusal offset ss ranked h f (entry_count buffer) ≡ refusal_number refusal → Other (refusal_number refusal) → Found (Err refusal) buffer
+  stays refusal e o =
       record {
-        answer = outcome_refused n _ ne ∙ ap (λ z. outcome z (tested_rows offset ss ranked h f way)) (sym e);
-        left = sym (ap (λ z. entries_left z (tested_written offset ss ranked h f buffer) buffer) e ∙ untouched n ne o.0 o.1 (tested_written offset ss ranked h f buffer) buffer);
+        answer = outcome_refused (refusal_number refusal) _ (numbered refusal) ∙ ap (λ z. outcome z (tested_rows offset ss ranked h f way)) (sym e);
+        left = sym (ap (λ z. entries_left z (tested_written offset ss ranked h f buffer) buffer) e ∙ untouched (refusal_number refusal) (numbered refusal) o.0 o.1 (tested_written offset ss ranked h f buffer) buffer);
       }
 
   order_other : Other order
@@ -99,8 +100,8 @@ module _ (offset : ℕ) (ss : List (List ℕ)) (way : Way) (ranked : List ℕ) (
       go false b = (λ e. omega arith, λ e. omega arith)
 
   -- 12 or 13
-  pub by_order : (n : ℕ) → n ≡ order → (n ≡ 0 → ⊥) → Found (fragments.Refused n) buffer
-  by_order n e ne = stays n (chain ∙ grouped twelve thirteen rest ∙ stands n order rest ne (sym e)) ne (subst Other (sym e) order_other)
+  pub by_order : (refusal : Refusal) → refusal_number refusal ≡ order → Found (Err refusal) buffer
+  by_order refusal e = stays refusal (chain ∙ grouped twelve thirteen rest ∙ stands (refusal_number refusal) order rest (numbered refusal) (sym e)) (subst Other (sym e) order_other)
 
   module _ (ordered : order ≡ 0) where
     -- the reads are those of the mode
@@ -114,10 +115,10 @@ module _ (offset : ℕ) (ss : List (List ℕ)) (way : Way) (ranked : List ℕ) (
     rest_is = chain ∙ grouped twelve thirteen rest ∙ ap (λ z. z or_else rest) ordered
 
     -- 7 or 14 to 16
-    pub by_reads : (n : ℕ) → first_refusal (mate_refusal offset s) (by_mode s.mode m m') ≡ n → (n ≡ 0 → ⊥) → Found (fragments.Refused n) buffer
-    by_reads n e ne =
-        let g : first_refusal (mate_refusal offset s) (fragment_reads count m m') ≡ n = ap (first_refusal (mate_refusal offset s)) reads_are ∙ e in
-        stays n (rest_is ∙ stands n _ rooms ne g) ne (subst Other g (other_reads offset s (fragment_reads count m m')))
+    pub by_reads : (refusal : Refusal) → first_refusal (mate_refusal offset s) (by_mode s.mode m m') ≡ refusal_number refusal → Found (Err refusal) buffer
+    by_reads refusal e =
+        let g : first_refusal (mate_refusal offset s) (fragment_reads count m m') ≡ refusal_number refusal = ap (first_refusal (mate_refusal offset s)) reads_are ∙ e in
+        stays refusal (rest_is ∙ stands (refusal_number refusal) _ rooms (numbered refusal) g) (subst Other g (other_reads offset s (fragment_reads count m m')))
 
     -- observed
     module _ (checked : first_refusal (mate_refusal offset s) (by_mode s.mode m m') ≡ 0) where
@@ -125,14 +126,14 @@ module _ (offset : ℕ) (ss : List (List ℕ)) (way : Way) (ranked : List ℕ) (
       rooms_are = rest_is ∙ ap (λ z. z or_else rooms) (ap (first_refusal (mate_refusal offset s)) reads_are ∙ checked)
 
       -- said of the reads by mode
-      abbrev Seen : List MateRead → FragmentAnswer → List ℕ → Type 0
+      abbrev Seen : List MateRead → Result FragmentRows Refusal → List ℕ → Type 0
       Seen reads r b =
           (fragment_outcome r ≡ outcome (refusal_of reads) (map (λ (r : MateRead). observed_row s ss way (observe offset s r)) reads)) × (b ≡ entries_left (refusal_of reads) (in_parts (4 * share_of s.mode (entry_count buffer)) 0 (map (λ (r : MateRead). observed_entries s ss ranked (observe offset s r)) reads) (cleared buffer)) buffer)
         where
           refusal_of : List MateRead → ℕ
           refusal_of ms = first_refusal (λ (r : MateRead). observed_room s ss (share_of s.mode (entry_count buffer)) (observe offset s r)) ms or_else unless (countable (booked_all ranked (map (mate_booked offset s ss) ms) (held_books h))) 17
 
-      as_seen : (r : FragmentAnswer) (b : List ℕ) → Seen (by_mode s.mode m m') r b → Found r b
+      as_seen : (r : Result FragmentRows Refusal) (b : List ℕ) → Seen (by_mode s.mode m m') r b → Found r b
       as_seen r b seen =
           let z : Seen (fragment_reads count m m') r b = subst (λ (l : List MateRead). Seen l r b) (sym reads_are) seen in
           record { answer = z.0 ∙ ap (λ n. outcome n (tested_rows offset ss ranked h f way)) (sym rooms_are); left = z.1 ∙ ap (λ n. entries_left n (tested_written offset ss ranked h f buffer) buffer) (sym rooms_are) }
@@ -147,7 +148,7 @@ module _ (offset : ℕ) (ss : List (List ℕ)) (way : Way) (ranked : List ℕ) (
             ap₂ (λ x l. x or_else unless (countable (booked_all ranked l (held_books h))) 17) (rooms_same offset s m m' one two first_is second_is (observed_room s ss (share_of s.mode (entry_count buffer)))) (booked_same offset s m m' one two first_is second_is ss way)
 
         -- so it was observed as a whole
-        pub by_ranked : (r : FragmentAnswer) (b : List ℕ) → RankedObserved s ss way ranked (role_number m.role) (role_number m'.role) one two h.state.ledger h.counters r buffer b → Found r b
+        pub by_ranked : (r : Result FragmentRows Refusal) (b : List ℕ) → RankedObserved s ss way ranked (role_number m.role) (role_number m'.role) one two h.state.ledger h.counters r buffer b → Found r b
         by_ranked r b seen = as_seen r b (
           seen.answer ∙ ap₂ outcome number_is (by_mates offset s m m' one two first_is second_is (observed_row s ss way)),
           seen.entries ∙ ap₂ (λ n l. entries_left n (in_parts (4 * share_of s.mode (entry_count buffer)) 0 l (cleared buffer)) buffer) number_is (by_mates offset s m m' one two first_is second_is (observed_entries s ss ranked)),

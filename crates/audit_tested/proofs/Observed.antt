@@ -1,4 +1,6 @@
 -- The reads of a fragment, from their checks to what is observed of them.
+use Rattle.std.specs.Prelude.{Result, Ok, Err}
+use Rattle.promises.specs.declared.refusal.Refusal.{Refusal}
 use mathlib.Core.Path.{◌≡◌, refl, sym, ap, subst, ◌∙◌}
 use mathlib.Core.Bool.{Bool, true, false, cond, ◌&&◌, true≢false}
 use mathlib.Core.List.{List, map}
@@ -7,7 +9,7 @@ use native.Mathlib.Omega.{arith}
 use lib.ListN.{length}
 use borrow.Author.Tests.{leb-true}
 use Rattle.lists.proofs.Cases.{by_test, and-true}
-use Rattle.promises.specs.Refusal.{unless, outcome}
+use Rattle.promises.specs.Refusal.{refusal_number, unless, outcome}
 use Rattle.promises.proofs.Refusing.{none_first, none_second, passed, outcome_accepted, outcome_number}
 use Rattle.bases.specs.Read.{Read, letters}
 use Rattle.bases.specs.Eligibility.{Verdict, ineligible, eligible, ◌then◌, empty_test, given_test, bases_test, eligibility}
@@ -18,8 +20,7 @@ use Rattle.map_by_index.specs.Work.{Way}
 use Rattle.map_answers.specs.Bounds.{length_right}
 use Rattle.audit_ledger.specs.Booking.{Counters}
 use Rattle.audit_ledger.specs.declared.Ledger.{Ledger}
-use Rattle.audit_model.specs.declared.calls.FragmentAnswer.{FragmentAnswer}
-use Rattle.audit_model.specs.declared.calls.FragmentAnswer.TheVariants as fragments
+use Rattle.audit_model.specs.declared.calls.FragmentRows.{FragmentRows}
 use Rattle.audit_model.specs.declared.settings.AuditInputMode.{AuditInputMode}
 use Rattle.audit_model.specs.declared.settings.AuditInputMode.TheVariants as modes
 use Rattle.audit_model.specs.declared.settings.Settings.{Settings}
@@ -29,8 +30,6 @@ use Rattle.audit_model.specs.Fragment.{first_refusal}
 use Rattle.audit_model.specs.Calls.{fragment_of}
 use Rattle.audit_read_checks.specs.Checks.{by_mode, if_paired, checks_outcome}
 use Rattle.audit_read_checks.specs.declared.SearchedReads.{SearchedReads}
-use Rattle.audit_read_checks.specs.declared.ReadsCheck.{ReadsCheck}
-use Rattle.audit_read_checks.specs.declared.ReadsCheck.TheVariants as pairs
 use Rattle.audit_observe_read.specs.Observed.{way_if, ReadPassed, as_observed}
 use Rattle.audit_roles.specs.Order.{order_refusal}
 use Rattle.audit_observe_fragment.specs.Observe.{observed_refusal, RankedLent, RankedObserved}
@@ -73,7 +72,7 @@ module _ (offset : ℕ) (s : Settings) (m m' : MateRead) where
 -- ---- the way of searching, where no read is searched
 
 -- two reads that are not searched are observed alike either way
-unsearched : (s : Settings) (ss : List (List ℕ)) (way way' : Way) (ranked : List ℕ) (a b : ℕ) (first second : List ℕ) (l : Ledger) (k : Counters) (r : FragmentAnswer) (buffer buffer' : List ℕ)
+unsearched : (s : Settings) (ss : List (List ℕ)) (way way' : Way) (ranked : List ℕ) (a b : ℕ) (first second : List ℕ) (l : Ledger) (k : Counters) (r : Result FragmentRows Refusal) (buffer buffer' : List ℕ)
     → RankedObserved s ss way ranked a b (as_observed false first) (as_observed false second) l k r buffer buffer' → RankedObserved s ss way' ranked a b (as_observed false first) (as_observed false second) l k r buffer buffer'
 unsearched s ss way way' ranked a b first second l k r buffer buffer' seen = record { answer = seen.answer ∙ ap (λ z. outcome (observed_refusal s ss way ranked a b (as_observed false first) (as_observed false second) l k (entry_count buffer)) z) (rows s.mode); entries = seen.entries }
   where
@@ -91,18 +90,18 @@ module _ (offset : ℕ) (ss : List (List ℕ)) (indexed : Bool) (q : ℕ) (ranke
   abbrev s : Settings
   s = h.state.settings
 
-  abbrev Seen : FragmentAnswer → List ℕ → Type 0
+  abbrev Seen : Result FragmentRows Refusal → List ℕ → Type 0
   Seen r b = TestedObserved offset ss (way_if indexed q) ranked h (fragment_of ordinal count m m') r buffer b
 
-  module _ (r : ReadsCheck)
+  module _ (r : Result SearchedReads Refusal)
       (checks : checks_outcome r ≡ outcome (first_refusal (mate_refusal offset s) (by_mode s.mode m m')) (is_searched offset s m, if_paired s.mode (is_searched offset s m'))) where
     -- a read is refused
-    pub reads_refused : order_refusal h.state.last ordinal s.mode count (role_number m.role) (role_number m'.role) ≡ 0 → (n : ℕ) → r ≡ pairs.Refused n → Seen (fragments.Refused n) buffer
-    reads_refused ordered n told =
-        let w = outcome_number (first_refusal (mate_refusal offset s) (by_mode s.mode m m')) n _ (sym checks ∙ ap checks_outcome told) in
-        by_reads offset ss (way_if indexed q) ranked h ordinal count m m' buffer ordered n w.0 w.1
+    pub reads_refused : order_refusal h.state.last ordinal s.mode count (role_number m.role) (role_number m'.role) ≡ 0 → (refusal : Refusal) → r ≡ Err refusal → Seen (Err refusal) buffer
+    reads_refused ordered refusal told =
+        let w = outcome_number (first_refusal (mate_refusal offset s) (by_mode s.mode m m')) (refusal_number refusal) _ (sym checks ∙ ap checks_outcome told) in
+        by_reads offset ss (way_if indexed q) ranked h ordinal count m m' buffer ordered refusal w.0
 
-    module _ (p : SearchedReads) (told : r ≡ pairs.Passed p) where
+    module _ (p : SearchedReads) (told : r ≡ Ok p) where
       reads_passed : (first_refusal (mate_refusal offset s) (by_mode s.mode m m') ≡ 0) × (◌≡◌ {A = Bool × Bool} (is_searched offset s m, if_paired s.mode (is_searched offset s m')) (p.first, p.second))
       reads_passed = outcome_accepted (first_refusal (mate_refusal offset s) (by_mode s.mode m m')) _ (p.first, p.second) (sym checks ∙ ap checks_outcome told)
 
@@ -125,11 +124,11 @@ module _ (offset : ℕ) (ss : List (List ℕ)) (indexed : Bool) (q : ℕ) (ranke
             places = t.places;
           }
 
-      abbrev Ranked : Way → SearchedReads → FragmentAnswer → List ℕ → Type 0
+      abbrev Ranked : Way → SearchedReads → Result FragmentRows Refusal → List ℕ → Type 0
       Ranked way p a b = RankedObserved s ss way ranked (role_number m.role) (role_number m'.role) (as_observed p.first m.read.bases) (as_observed p.second m'.read.bases) h.state.ledger h.counters a buffer b
 
       -- by the index or not, as if it had been tested
-      either_way : (a : FragmentAnswer) (b : List ℕ) → Ranked (way_if (indexed && s.remap) q) p a b → Ranked (way_if indexed q) p a b
+      either_way : (a : Result FragmentRows Refusal) (b : List ℕ) → Ranked (way_if (indexed && s.remap) q) p a b → Ranked (way_if indexed q) p a b
       either_way a b = by_test s.remap on off
         where
           on : s.remap ≡ true → Ranked (way_if (indexed && s.remap) q) p a b → Ranked (way_if indexed q) p a b
@@ -147,7 +146,7 @@ module _ (offset : ℕ) (ss : List (List ℕ)) (indexed : Bool) (q : ℕ) (ranke
 
       -- observed
       pub reads_observed : order_refusal h.state.last ordinal s.mode count (role_number m.role) (role_number m'.role) ≡ 0 → (searchable : Bool) → searchable ≡ (indexed && s.remap)
-          → (a : FragmentAnswer) (b : List ℕ) → Ranked (way_if searchable q) p a b → Seen a b
+          → (a : Result FragmentRows Refusal) (b : List ℕ) → Ranked (way_if searchable q) p a b → Seen a b
       reads_observed ordered searchable e a b seen =
           by_ranked offset ss (way_if indexed q) ranked h ordinal count m m' buffer ordered reads_passed.0 (as_observed p.first m.read.bases) (as_observed p.second m'.read.bases)
           (ap (λ t. as_observed t m.read.bases) (sym first_is)) (λ z. ap (λ t. as_observed t m'.read.bases) (sym second_is ∙ ap (λ mode. if_paired mode (is_searched offset s m')) z))

@@ -1,5 +1,6 @@
 -- A fragment in a catalogue that was tested (REFERENCE.md, "Fragment").
-use Rattle.std.specs.Prelude.{◌≡◌, Bool, true, ◌&&◌, List, ℕ, length}
+use Rattle.std.specs.Prelude.{◌≡◌, Bool, true, ◌&&◌, List, ℕ, length, Result}
+use Rattle.promises.specs.declared.refusal.Refusal.{Refusal}
 use Rattle.promises.specs.Refusal.{outcome, if_passed}
 use Rattle.map_every_start.specs.Entries.{entry_count}
 use Rattle.map_by_index.specs.Work.{Way}
@@ -7,7 +8,7 @@ use Rattle.map_answers.specs.Bounds.{limit_right}
 use Rattle.audit_ledger.specs.Booking.{Counters}
 use Rattle.audit_ledger.specs.Counting.{Ranked}
 use Rattle.audit_book_fragment.specs.Books.{CountersLent}
-use Rattle.audit_model.specs.declared.calls.FragmentAnswer.{FragmentAnswer}
+use Rattle.audit_model.specs.declared.calls.FragmentRows.{FragmentRows}
 use Rattle.audit_model.specs.declared.calls.FragmentAudit.{FragmentAudit}
 use Rattle.audit_model.specs.declared.settings.Settings.{Settings}
 use Rattle.audit_model.specs.Settings.{Held}
@@ -24,7 +25,7 @@ pub record Tested (indexed : Bool) (q : ℕ) (bases ends ranked ks rs os : List 
 
 module _ (offset : ℕ) (ss : List (List ℕ)) (way : Way) (ranked : List ℕ) (h : Held) (f : Fragment) where
   -- observed: its answer, and the entries
-  pub record TestedObserved (r : FragmentAnswer) (buffer buffer' : List ℕ) : Type 0 where
+  pub record TestedObserved (r : Result FragmentRows Refusal) (buffer buffer' : List ℕ) : Type 0 where
     pub answer : fragment_outcome r ≡ outcome (tested_refusal offset ss ranked h f (entry_count buffer)) (tested_rows offset ss ranked h f way)
     pub left : buffer' ≡ entries_left (tested_refusal offset ss ranked h f (entry_count buffer)) (tested_written offset ss ranked h f buffer) buffer
 

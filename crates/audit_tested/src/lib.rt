@@ -1,16 +1,19 @@
 // A fragment in a catalogue that was tested: checked, observed and booked.
 #![tactic(auto)]
 
-ghost use Rattle.index_model.specs.Index.{lent_sequences};
+ghost use Rattle.index_model.specs.Index.{sequences_in};
 ghost use Rattle.audit_ledger.specs.Booking.{counters_of, left_counters};
 ghost use Rattle.audit_model.specs.Calls.{lent_held, lent_mate, fragment_of};
 ghost use Rattle.audit_observe_read.specs.Observed.{way_if};
 ghost use Rattle.audit_tested.specs.Tested.{Tested, TestedAudited};
 
 use audit_book_answer::book_answer;
-use audit_model::calls::{FragmentAnswer, FragmentAudit};
+use audit_ledger::LentCounters;
+use audit_model::calls::FragmentAudit;
 use audit_model::settings::{AuditState, MateRole};
 use audit_observe_reads::share_of;
+use index_columns::LentIndex;
+use index_model::ranked::RankedTargets;
 use observe::observe_tested;
 
 pub mod observe;
@@ -21,12 +24,8 @@ pub fn audit_tested(
     placements: &mut [u64],
     singles: &mut [u64],
     multi: &mut [u64],
-    keys: &[u64],
-    ranks: &[u64],
-    positions: &[u64],
-    bases: &[u8],
-    ends: &[usize],
-    ranked: &[usize],
+    index: LentIndex<'_>,
+    targets: RankedTargets<'_>,
     first: &[u8],
     first_qualities: &[u8],
     second: &[u8],
@@ -42,9 +41,9 @@ pub fn audit_tested(
     offset: u8,
     state: AuditState,
 ) -> FragmentAudit
-    requires { Tested indexed q bases.now ends.now ranked.now keys.now ranks.now positions.now state.settings
+    requires { Tested indexed q targets.bases.now targets.ends.now targets.ranked.now index.keys.now index.ranks.now index.positions.now state.settings
         (counters_of placements.old singles.old multi.old) }
-    ensures { TestedAudited offset (lent_sequences bases.now ends.now ranked.now) (way_if indexed q) ranked.now (lent_held state placements.old singles.old multi.old)
+    ensures { TestedAudited offset (sequences_in targets.entry) (way_if indexed q) targets.entry.ranked.now (lent_held state placements.old singles.old multi.old)
         (fragment_of ordinal count (lent_mate first_role first.now first_present first_qualities.now) (lent_mate second_role second.now second_present second_qualities.now))
         result (left_counters placements.new singles.new multi.new) entries.old entries.new }
 {
@@ -53,15 +52,13 @@ pub fn audit_tested(
     let width = 4 * share_of(mode, entries.len() / 4);
     let answer = observe_tested(
         entries,
-        placements,
-        singles,
-        multi,
-        keys,
-        ranks,
-        positions,
-        bases,
-        ends,
-        ranked,
+        LentCounters {
+            placements,
+            singles,
+            multi,
+        },
+        index,
+        targets,
         first,
         first_qualities,
         second,
@@ -77,23 +74,25 @@ pub fn audit_tested(
         offset,
         state,
     );
-    let FragmentAnswer::Refused(n) = answer else {
-        let booked = book_answer(
-            placements,
-            singles,
-            multi,
-            entries,
-            state,
-            answer,
-            ordinal,
-            first_role,
-            second_role,
-            width,
-        );
-        return FragmentAudit {
-            answer,
-            state: booked,
-        };
-    };
-    FragmentAudit { answer, state }
+    match answer {
+        Err(_) => FragmentAudit { answer, state },
+        Ok(_) => {
+            let booked = book_answer(
+                placements,
+                singles,
+                multi,
+                entries,
+                state,
+                answer,
+                ordinal,
+                first_role,
+                second_role,
+                width,
+            );
+            FragmentAudit {
+                answer,
+                state: booked,
+            }
+        }
+    }
 }

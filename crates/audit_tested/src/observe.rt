@@ -1,28 +1,26 @@
 // A fragment observed. State and counters are only read.
-ghost use Rattle.index_model.specs.Index.{lent_sequences};
+ghost use Rattle.index_model.specs.Index.{sequences_in};
 ghost use Rattle.audit_ledger.specs.Booking.{counters_of};
 ghost use Rattle.audit_model.specs.Calls.{lent_held, lent_mate, fragment_of};
 ghost use Rattle.audit_observe_read.specs.Observed.{way_if};
 ghost use Rattle.audit_tested.specs.Tested.{Tested, TestedObserved};
 
-use audit_model::calls::FragmentAnswer;
+use audit_ledger::LentCounters;
+use audit_model::calls::FragmentRows;
 use audit_model::settings::{AuditState, MateRole};
 use audit_observe_fragment::observe_ranked;
-use audit_read_checks::{ReadsCheck, check_reads};
-use audit_roles::order_refusal;
+use audit_read_checks::check_reads;
+use audit_roles::check_order;
+use index_columns::LentIndex;
+use index_model::ranked::RankedTargets;
+use promises::refusal::Refusal;
 
 // Observes a fragment: refused, or the rows of its reads, and their groups in the entries.
 pub fn observe_tested(
     entries: &mut [u64],
-    placements: &[u64],
-    singles: &[u64],
-    multi: &[u64],
-    keys: &[u64],
-    ranks: &[u64],
-    positions: &[u64],
-    bases: &[u8],
-    ends: &[usize],
-    ranked: &[usize],
+    counters: LentCounters<'_>,
+    index: LentIndex<'_>,
+    targets: RankedTargets<'_>,
     first: &[u8],
     first_qualities: &[u8],
     second: &[u8],
@@ -37,10 +35,10 @@ pub fn observe_tested(
     q: usize,
     offset: u8,
     state: AuditState,
-) -> FragmentAnswer
-    requires { Tested indexed q bases.now ends.now ranked.now keys.now ranks.now positions.now state.settings
-        (counters_of placements.now singles.now multi.now) }
-    ensures { TestedObserved offset (lent_sequences bases.now ends.now ranked.now) (way_if indexed q) ranked.now (lent_held state placements.now singles.now multi.now)
+) -> Result<FragmentRows, Refusal>
+    requires { Tested indexed q targets.bases.now targets.ends.now targets.ranked.now index.keys.now index.ranks.now index.positions.now state.settings
+        (counters_of counters.placements.now counters.singles.now counters.multi.now) }
+    ensures { TestedObserved offset (sequences_in targets.entry) (way_if indexed q) targets.entry.ranked.now (lent_held state counters.entry.placements.now counters.entry.singles.now counters.entry.multi.now)
         (fragment_of ordinal count (lent_mate first_role first.now first_present first_qualities.now) (lent_mate second_role second.now second_present second_qualities.now))
         result entries.old entries.new }
 {
@@ -48,11 +46,8 @@ pub fn observe_tested(
     let mode = settings.mode;
     let last = state.last;
     let ledger = state.ledger;
-    let refusal = order_refusal(last, ordinal, mode, count, first_role, second_role);
-    if refusal != 0 {
-        return FragmentAnswer::Refused(refusal);
-    }
-    let checked = check_reads(
+    check_order(last, ordinal, mode, count, first_role, second_role)?;
+    let searched = check_reads(
         first,
         first_qualities,
         first_present,
@@ -61,31 +56,22 @@ pub fn observe_tested(
         second_present,
         settings,
         offset,
-    );
+    )?;
     // with remap off no read is searched, and the index was not tested
     let searchable = indexed && settings.remap;
-    match checked {
-        ReadsCheck::Refused(n) => FragmentAnswer::Refused(n),
-        ReadsCheck::Passed(searched) => observe_ranked(
-            entries,
-            bases,
-            ends,
-            ranked,
-            keys,
-            ranks,
-            positions,
-            placements,
-            singles,
-            multi,
-            searchable,
-            q,
-            first,
-            first_role,
-            second,
-            second_role,
-            searched,
-            settings,
-            ledger,
-        ),
-    }
+    observe_ranked(
+        entries,
+        targets,
+        index,
+        counters,
+        searchable,
+        q,
+        first,
+        first_role,
+        second,
+        second_role,
+        searched,
+        settings,
+        ledger,
+    )
 }

@@ -1,4 +1,5 @@
 -- A fragment is accepted exactly where no refusal of the table has its condition.
+use Rattle.std.specs.Prelude.{Option, Some, None}
 use mathlib.Core.Path.{◌≡◌, refl, ap}
 use mathlib.Core.Bool.{Bool, true, false, cond}
 use mathlib.Core.Logic.{◌↔◌, inl, inr}
@@ -22,8 +23,6 @@ use Rattle.map_every_start.specs.Entries.{entry_count}
 use Rattle.map_answers.specs.Bounds.{length_right}
 use Rattle.map_answers.specs.Answer.{room_refusal}
 use Rattle.audit_ledger.specs.Booking.{Books, kept, max_counter, countable}
-use Rattle.audit_model.specs.declared.settings.LastOrdinal.{LastOrdinal}
-use Rattle.audit_model.specs.declared.settings.LastOrdinal.TheVariants as ordinals
 use Rattle.audit_model.specs.declared.settings.Settings.{Settings}
 use Rattle.audit_model.specs.Settings.{Held}
 use Rattle.audit_model.specs.Opening.{opening_refusal}
@@ -62,11 +61,11 @@ not_refused (suc n) a = (λ e. absurd (omega arith), λ e. absurd (let z : ◌�
 -- ---- one condition after the other
 
 -- 12
-order_passes : (l : LastOrdinal) (ordinal : ℕ) → ((last : ℕ) → l ≡ ordinals.Accepted last → last < ordinal) → in_order l ordinal ≡ true
-order_passes ordinals.Absent ordinal h = refl
-order_passes (ordinals.Accepted last) ordinal h = lt-ltb last ordinal (h last refl)
+order_passes : (l : Option ℕ) (ordinal : ℕ) → ((last : ℕ) → l ≡ Some last → last < ordinal) → in_order l ordinal ≡ true
+order_passes None ordinal h = refl
+order_passes (Some last) ordinal h = lt-ltb last ordinal (h last refl)
 
-order_passed : (l : LastOrdinal) (ordinal last : ℕ) → l ≡ ordinals.Accepted last → in_order l ordinal ≡ true → last < ordinal
+order_passed : (l : Option ℕ) (ordinal last : ℕ) → l ≡ Some last → in_order l ordinal ≡ true → last < ordinal
 order_passed l ordinal last e t = ltb-true last ordinal (rw e at t)
 
 -- 10

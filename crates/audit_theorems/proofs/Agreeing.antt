@@ -1,4 +1,5 @@
 -- Two audits of one list of calls agree, call by call and in the sheet.
+use Rattle.std.specs.Prelude.{Some}
 use mathlib.Core.Path.{◌≡◌, refl, sym, ap, subst, ◌∙◌}
 use mathlib.Core.Bool.{true≢false}
 use mathlib.Core.List.{List, [], ◌∷◌, map, map-map, head-eq_of_cons-eq, tail-eq_of_cons-eq}
@@ -13,7 +14,6 @@ use Rattle.map_every_start.specs.Entries.{entry_count}
 use Rattle.map_by_index.specs.Work.{by_index, plain}
 use Rattle.audit_ledger.specs.Booking.{Books}
 use Rattle.audit_model.specs.declared.settings.Settings.{Settings}
-use Rattle.audit_model.specs.declared.settings.LastOrdinal.TheVariants as ordinals
 use Rattle.audit_model.specs.declared.sheet.Sheet.{Sheet}
 use Rattle.audit_model.specs.Settings.{Held, held_books}
 use Rattle.audit_model.specs.Opening.{IndexLent, columns, none, started}
@@ -66,7 +66,7 @@ module _ (q offset : ℕ) (some : 1 ≤ q) (c : Catalogue) (right : Valid c) whe
       held_same =
           let a = (fragment_checked q offset c lent h fragment (entry_count x.entries) z).own in
           let b = (fragment_checked q offset c none h plain_fragment (entry_count x.plain_entries) z').own in
-          ap (λ (k : Books). record { state = record { settings = s; last = ordinals.Accepted x.ordinal; ledger = k.ledger }; counters = k.counters })
+          ap (λ (k : Books). record { state = record { settings = s; last = Some x.ordinal; ledger = k.ledger }; counters = k.counters })
           (all_booked q offset some c right s x.reads a.reads b.reads (held_books h))
 
   -- ---- calls one after the other

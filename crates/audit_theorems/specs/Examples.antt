@@ -1,5 +1,5 @@
 -- The worked examples of the rules, those of the mapper, a whole run and a stream, as one table (REFERENCE.md, "Worked examples").
-use Rattle.std.specs.Prelude.{◌≡◌, true, List, [], ◌∷◌, map, ℕ, replicate}
+use Rattle.std.specs.Prelude.{◌≡◌, true, List, [], ◌∷◌, map, ℕ, replicate, None}
 use Prim.Native.String.{String}
 use Rattle.lists.specs.Triple.{Triple}
 use Rattle.promises.specs.Refusal.{Outcome, accepted}
@@ -12,7 +12,6 @@ use Rattle.audit_model.specs.declared.settings.AuditInputMode.TheVariants as mod
 use Rattle.audit_model.specs.declared.settings.MateRole.TheVariants as roles
 use Rattle.audit_model.specs.declared.settings.Settings.{Settings}
 use Rattle.audit_model.specs.declared.sheet.Status.TheVariants as statuses
-use Rattle.audit_model.specs.declared.sheet.Availability.TheVariants as totals
 use Rattle.audit_model.specs.declared.sheet.Shown.{Shown}
 use Rattle.audit_model.specs.Settings.{Held, audit_seed, audit_offset}
 use Rattle.audit_model.specs.Opening.{IndexLent, columns, opening_refusal, started}
@@ -91,7 +90,7 @@ catch_run =
       number = 3;
       placements = (record { target = 0; start = 0; end = 2; strand = 0 } ∷ record { target = 0; start = 2; end = 4; strand = 1 } ∷ record { target = 0; start = 0; end = 0; strand = 0 } ∷ []) ∷ [];
       counts = (0, 1, 0) ∷ (0, 2, 0) ∷ (0, 3, 0) ∷ (0, 4, 0) ∷ (0, 5, 1) ∷ [];
-      targets = shown statuses.Complete (totals_of 2 0 1) ∷ record { status = statuses.ClosedUnsupported; totals = totals.Unavailable } ∷ [];
+      targets = shown statuses.Complete (totals_of 2 0 1) ∷ record { status = statuses.ClosedUnsupported; totals = None } ∷ [];
       total = shown statuses.Complete (totals_of 2 0 1);
       words = "placement_enumeration_complete" ∷ "placement_enumeration_complete" ∷ "unavailable_closed_walk_audit_unsupported" ∷ [];
     }

@@ -1,5 +1,5 @@
 -- What the answers and the sheet of a run mean: demand 2.
-use Rattle.std.specs.Prelude.{◌≡◌, Bool, true, false, cond, List, [], ◌∷◌, ◌++◌, map, ◌↔◌, ◌⊎◌, ℕ, ◌*◌, ◌<◌, ◌≤◌, length}
+use Rattle.std.specs.Prelude.{◌≡◌, Bool, true, false, cond, List, [], ◌∷◌, ◌++◌, map, ◌↔◌, ◌⊎◌, ℕ, ◌*◌, ◌<◌, ◌≤◌, length, Some, None}
 use Rattle.lists.specs.Cut.{window}
 use Rattle.lists.specs.Member.{◌∈◌}
 use Rattle.lists.specs.Sum.{sum}
@@ -16,10 +16,8 @@ use Rattle.indexed_mapper.specs.Match.{Lists}
 use Rattle.audit_ledger.specs.Booking.{Booked, Counters, kept, max_counter}
 use Rattle.audit_ledger.specs.Balance.{count_of}
 use Rattle.audit_ledger.specs.Counting.{Bookable, Counts, reads_in_state, reads_of, any_indeterminate, placements_on, singles_on, multi_on}
-use Rattle.audit_model.specs.declared.settings.LastOrdinal.TheVariants as ordinals
 use Rattle.audit_model.specs.declared.settings.Settings.{Settings}
 use Rattle.audit_model.specs.declared.sheet.Status.TheVariants as statuses
-use Rattle.audit_model.specs.declared.sheet.Availability.TheVariants as totals
 use Rattle.audit_model.specs.declared.sheet.Sheet.{Sheet}
 use Rattle.audit_model.specs.Settings.{Held, held_books, role_number, roles_of}
 use Rattle.audit_model.specs.Opening.{IndexLent, opening_refusal}
@@ -40,7 +38,7 @@ Roomy entries limit matched = (matched ≤ entries) ⊎ (limit ≤ entries)
 -- matches than entries where these are fewer than the limit (10); and no count would pass 2^64 - 1 (17)
 pub record Acceptable (q offset : ℕ) (c : Catalogue) (h : Held) (x : Call) : Type 0 where
   pub opening : opening_refusal q offset c x.lent h.state.settings h.counters ≡ 0
-  pub order : (last : ℕ) → h.state.last ≡ ordinals.Accepted last → last < x.fragment.ordinal
+  pub order : (last : ℕ) → h.state.last ≡ Some last → last < x.fragment.ordinal
   pub roles : map (λ (r : MateRead). role_number r.role) x.fragment.reads ≡ roles_of h.state.settings.mode
   pub lengths : (r : MateRead) → r ∈ x.fragment.reads → length r.read.bases ≤ max_read
   pub verdicts : h.state.settings.remap ≡ true → (r : MateRead) → r ∈ x.fragment.reads → verdict_refusal (eligibility h.state.settings.floor offset r.read) ≡ 0
@@ -81,7 +79,7 @@ pub record SheetMeans (c : Catalogue) (s : Settings) (bs : List Booked) (sheet :
   pub linear :
       (t : Target) → t ∈ targets c → is_mapped t ≡ true
       → target_shown sheet k t ≡ shown (run_status s.remap (any_indeterminate bs)) (totals_of (placements_on (supplied_places c) t.place bs) (singles_on (supplied_places c) t.place bs) (multi_on (supplied_places c) t.place bs))
-  pub closed : (t : Target) → t ∈ targets c → is_mapped t ≡ false → target_shown sheet k t ≡ record { status = statuses.ClosedUnsupported; totals = totals.Unavailable }
+  pub closed : (t : Target) → t ∈ targets c → is_mapped t ≡ false → target_shown sheet k t ≡ record { status = statuses.ClosedUnsupported; totals = None }
   pub run : sheet.run ≡ shown (run_status s.remap (any_indeterminate bs)) (totals_of (sum k.placements) (sum k.singles) (sum k.multi))
 
 -- one call: accepted exactly where no refusal has its condition, and then it books each of its reads; refused, none

@@ -1,12 +1,16 @@
 -- The refusals of a sheet that is written, in the order of the tests, and what it writes.
+use Rattle.std.specs.Prelude.{Ok, Err}
+use Rattle.promises.specs.declared.refusal.Refusal.{Refusal}
+use Rattle.promises.specs.declared.refusal.Refusal.TheVariants as refusals
+use Rattle.promises.specs.Refusal.{refusal_number, refused}
 use mathlib.Core.Path.{◌≡◌, refl, sym, ap, subst, ◌∙◌}
-use mathlib.Core.Bool.{Bool, true, false, not, ◌&&◌}
+use mathlib.Core.Bool.{Bool, true, false, ◌&&◌}
 use mathlib.Core.List.{List, [], ◌∷◌}
 use Prim.Native.Nat.{ℕ, suc, ◌*◌}
 use native.Mathlib.Omega.{arith}
 use lib.ListN.{length}
 use lib.Dec.{eqb}
-use borrow.Author.Tests.{eqb-true, not-true, not-false}
+use borrow.Author.Tests.{eqb-true}
 use Rattle.lists.specs.Same.{same}
 use Rattle.lists.proofs.Cases.{and-true}
 use Rattle.catalogue.specs.Catalogue.{Catalogue, names, sequences, targets, targets_from, in_bounds}
@@ -14,7 +18,6 @@ use Rattle.catalogue.proofs.Checks.{bounded}
 use Rattle.catalogue.proofs.Mapped.{sequence_count, mark_count, target_count}
 use Rattle.audit_ledger.specs.Booking.{Counters, counters_for, CountersFor}
 use Rattle.audit_ledger.proofs.Booking.{each_counter}
-use Rattle.audit_model.specs.declared.calls.CallAnswer.TheVariants as calls
 use Rattle.audit_model.specs.declared.sheet.Sheet.{Sheet}
 use Rattle.audit_model.specs.Unitigs.{all_alike, apply_refusal}
 use Rattle.audit_unitigs.specs.Rows.{names_alike, lists_for, rows_to, Named, RowsLent, Applies}
@@ -44,26 +47,26 @@ named c t = record { right = (bounded c t).named; marked = (bounded c t).marked 
 -- ---- the tests in their order
 
 module _ (audited c : Catalogue) (sheet : Sheet) (k : Counters) (rows : List ℕ) where
-  refuses : (n m : ℕ) → n ≡ suc m → apply_refusal audited c sheet k rows ≡ suc m → Applies audited c sheet k rows (calls.Refused n) rows
-  refuses n m e f = rw e (record { answer = rw f; left = rw f })
+  refuses : (e : Refusal) (m : ℕ) → refusal_number e ≡ suc m → apply_refusal audited c sheet k rows ≡ suc m → Applies audited c sheet k rows (Err e) rows
+  refuses e m told f = record { answer = rw f (ap refused told); left = rw f }
 
   -- x tells whether the targets are in their bounds, y whether the audited ones are, r whether the lists are right, s whether the names are alike
   module _ (x : Bool) (of_targets : x ≡ in_bounds c) where
-    pub targets_out : (n : ℕ) → n ≡ 2 → not x ≡ true → Applies audited c sheet k rows (calls.Refused n) rows
+    pub targets_out : x ≡ false → Applies audited c sheet k rows (Err refusals.Catalogue) rows
     unfolding apply_refusal
-    targets_out n e f = refuses n 1 e (rw (← of_targets, not-true x f))
+    targets_out f = refuses refusals.Catalogue 1 refl (rw (← of_targets, f))
 
-    module _ (in_x : not x ≡ false) (y : Bool) (of_audited : y ≡ in_bounds audited) where
+    module _ (in_x : x ≡ true) (y : Bool) (of_audited : y ≡ in_bounds audited) where
       t : in_bounds c ≡ true
-      t = sym of_targets ∙ not-false x in_x
+      t = sym of_targets ∙ in_x
 
-      pub audited_out : (n : ℕ) → n ≡ 2 → not y ≡ true → Applies audited c sheet k rows (calls.Refused n) rows
+      pub audited_out : y ≡ false → Applies audited c sheet k rows (Err refusals.Catalogue) rows
       unfolding apply_refusal
-      audited_out n e f = refuses n 1 e (rw (t, ← of_audited, not-true y f))
+      audited_out f = refuses refusals.Catalogue 1 refl (rw (t, ← of_audited, f))
 
-      module _ (in_y : not y ≡ false) where
+      module _ (in_y : y ≡ true) where
         u : in_bounds audited ≡ true
-        u = sym of_audited ∙ not-false y in_y
+        u = sym of_audited ∙ in_y
 
         pub both_named : Named audited.identifiers audited.identifier_ends audited.marks × Named c.identifiers c.identifier_ends c.marks
         both_named = (named audited u, named c t)
@@ -72,35 +75,32 @@ module _ (audited c : Catalogue) (sheet : Sheet) (k : Counters) (rows : List ℕ
           lists : (counters_for (length (targets audited)) k && eqb (length rows) (4 * length (targets c))) ≡ r
           lists = rw (target_count audited u, target_count c t) (sym of_lists)
 
-          pub lists_out : (n : ℕ) → n ≡ 2 → not r ≡ true → Applies audited c sheet k rows (calls.Refused n) rows
+          pub lists_out : r ≡ false → Applies audited c sheet k rows (Err refusals.Catalogue) rows
           unfolding apply_refusal
-          lists_out n e f = refuses n 1 e (rw (t, u, lists, not-true r f))
+          lists_out f = refuses refusals.Catalogue 1 refl (rw (t, u, lists, f))
 
-          module _ (in_r : not r ≡ false) (s : Bool) (of_names : s ≡ names_alike (names audited) audited.marks (names c) c.marks) where
-            right : r ≡ true
-            right = not-false r in_r
-
+          module _ (in_r : r ≡ true) (s : Bool) (of_names : s ≡ names_alike (names audited) audited.marks (names c) c.marks) where
             alike : all_alike (targets audited) (targets c) ≡ s
             alike =
                 alike-targets 0 0 (names audited) (sequences audited) audited.marks (names c) (sequences c) c.marks (sequence_count audited u) (mark_count audited u) (sequence_count c t) (mark_count c t)
                 ∙ sym of_names
 
-            pub names_out : (n : ℕ) → n ≡ 19 → not s ≡ true → Applies audited c sheet k rows (calls.Refused n) rows
+            pub names_out : s ≡ false → Applies audited c sheet k rows (Err refusals.ChangedTargets) rows
             unfolding apply_refusal
-            names_out n e f = refuses n 18 e (rw (t, u, lists ∙ right, alike ∙ not-true s f))
+            names_out f = refuses refusals.ChangedTargets 18 refl (rw (t, u, lists ∙ in_r, alike ∙ f))
 
-            module _ (in_s : not s ≡ false) where
+            module _ (in_s : s ≡ true) where
               pub rows-lent : RowsLent (length c.marks) k rows
               rows-lent =
                   let n : length audited.marks ≡ length c.marks =
-                  omega (arith, alike_lengths (names audited) audited.marks (names c) c.marks (sym of_names ∙ not-false s in_s), mark_count audited u, mark_count c t) in
+                  omega (arith, alike_lengths (names audited) audited.marks (names c) c.marks (sym of_names ∙ in_s), mark_count audited u, mark_count c t) in
                   let a = length audited.marks in
-                  let l = and-true (counters_for a k) (eqb (length rows) (4 * length c.marks)) (sym of_lists ∙ right) in
+                  let l = and-true (counters_for a k) (eqb (length rows) (4 * length c.marks)) (sym of_lists ∙ in_r) in
                   record { counters = subst (λ m. CountersFor m k) n (each_counter a k l.0); rows_right = eqb-true (length rows) (4 * length c.marks) l.1 }
 
               accepted : apply_refusal audited c sheet k rows ≡ 0
               unfolding apply_refusal
-              accepted = rw (t, u, lists ∙ right, alike ∙ not-false s in_s)
+              accepted = rw (t, u, lists ∙ in_r, alike ∙ in_s)
 
-              pub applies : (rows' : List ℕ) → rows' ≡ rows_to sheet.run.status c.marks k (length c.marks) → Applies audited c sheet k rows calls.Accepted rows'
+              pub applies : (rows' : List ℕ) → rows' ≡ rows_to sheet.run.status c.marks k (length c.marks) → Applies audited c sheet k rows (Ok tt) rows'
               applies rows' w = record { answer = rw accepted; left = rw accepted (w ∙ sym (rows_of_targets sheet k c.marks (names c) (sequences c) (sequence_count c t) (mark_count c t))) }

@@ -1,4 +1,5 @@
 -- The row of a target written, and the rows of all as those of a catalogue's targets.
+use Rattle.std.specs.Prelude.{Option, Some, None}
 use mathlib.Core.Path.{◌≡◌, refl, sym, ap, ◌∙◌}
 use mathlib.Core.List.{List, [], ◌∷◌, ◌++◌, map, append_assoc, append-nil}
 use Prim.Native.Nat.{ℕ, zero, suc, ◌+◌, ◌*◌, ◌<◌, ◌≤◌}
@@ -7,39 +8,23 @@ use native.Mathlib.Numerals.{add-one}
 use lib.ListN.{length, get_or, drop, length-append, length-drop, drop_of_length-le}
 use lib.Seq.{drop-cons}
 use lib.Dec.{eqb}
-use types.Run.{OneOf, miss}
-use denote.Enum.Declared.{tag_of}
 use Rattle.buffers.specs.Placed.{placed}
-use Rattle.buffers.proofs.Storing.{placed_none, length-placed, placed-placed}
+use Rattle.buffers.proofs.Storing.{length-placed, placed-placed}
 use Rattle.catalogue.specs.Catalogue.{targets_from}
 use Rattle.audit_ledger.specs.Booking.{Counters}
-use Rattle.audit_model.specs.declared.sheet.Availability.{Availability}
-use Rattle.audit_model.specs.declared.sheet.Availability.TheVariants as totals
-use Rattle.audit_model.specs.contracts.sheet.Availability.{the_type}
 use Rattle.audit_model.specs.declared.sheet.PlacementTotals.{PlacementTotals}
 use Rattle.audit_model.specs.declared.sheet.Shown.{Shown}
 use Rattle.audit_model.specs.declared.sheet.Sheet.{Sheet}
 use Rattle.audit_model.specs.declared.sheet.Status.{Status}
-use Rattle.audit_model.specs.Sheet.{status_number, totals_of, row_shown, target_shown}
+use Rattle.audit_model.specs.Sheet.{totals_of, row_shown, target_shown}
 use Rattle.audit_model.specs.Unitigs.{total_numbers, shown_numbers, shown_rows}
 use Rattle.audit_unitigs.specs.Rows.{row_at, rows_to, RowsLent}
 
 -- ---- one row
 
-no_totals : (a : Availability) → OneOf (0 ∷ []) (tag_of the_type a) → 0 ∷ 0 ∷ 0 ∷ [] ≡ total_numbers a
-no_totals totals.Unavailable k = refl
-no_totals (totals.Available t) k = absurd (miss (0 ∷ []) 1 tt k)
-
-module _ (x : Shown) (n : ℕ) (e : n ≡ status_number x.status) (at : ℕ) (rows rows' : List ℕ) where
-  pub row_without : OneOf (0 ∷ []) (tag_of the_type x.totals) → rows' ≡ placed at (n ∷ 0 ∷ 0 ∷ 0 ∷ []) rows → rows' ≡ placed at (shown_numbers x) rows
-  row_without k w = w ∙ ap (λ ns. placed at ns rows) (rw e (ap (λ ns. status_number x.status ∷ ns) (no_totals x.totals k)))
-
-  pub row_with : (t : PlacementTotals) → x.totals ≡ totals.Available t → rows' ≡ placed at (n ∷ t.placements ∷ t.singles ∷ t.multi ∷ []) rows → rows' ≡ placed at (shown_numbers x) rows
-  row_with t f w = w ∙ rw (e, f)
-
-length_totals : (a : Availability) → length (total_numbers a) ≡ 3
-length_totals totals.Unavailable = refl
-length_totals (totals.Available t) = refl
+length_totals : (a : Option PlacementTotals) → length (total_numbers a) ≡ 3
+length_totals None = refl
+length_totals (Some t) = refl
 
 length-row : (x : Shown) → length (shown_numbers x) ≡ 4
 length-row x = ap suc (length_totals x.totals)
@@ -60,13 +45,7 @@ pub record Written (status : Status) (marks : List ℕ) (k : Counters) (rows₀ 
   pub lent : RowsLent (length marks) k rows₀
   pub written : rows ≡ placed 0 (rows_to status marks k i) rows₀
 
-pub written_start : (status : Status) (marks : List ℕ) (k : Counters) (rows₀ : List ℕ) → RowsLent (length marks) k rows₀ → Written status marks k rows₀ 0 rows₀
-written_start status marks k rows₀ l = record { inside = omega arith; long = refl; lent = l; written = placed_none 0 rows₀ }
-
 module _ (status : Status) (marks : List ℕ) (k : Counters) (rows₀ : List ℕ) (i : ℕ) (rows : List ℕ) (inv : Written status marks k rows₀ i rows) where
-  pub written-room : i < length marks → 4 * i + 4 ≤ length rows
-  written-room h = omega (arith, inv.long, inv.lent.rows_right)
-
   pub written_next : i < length marks → (x : Shown) (rows' : List ℕ)
       → x ≡ row_shown status (eqb (get_or marks i 0) 0) (totals_of (get_or k.placements i 0) (get_or k.singles i 0) (get_or k.multi i 0))
       → rows' ≡ placed (4 * i) (shown_numbers x) rows → Written status marks k rows₀ (i + 1) rows'

@@ -1,11 +1,11 @@
 -- The rows of targets compared and written, by slices (REFERENCE.md, "Targets' rows").
-use Rattle.std.specs.Prelude.{◌≡◌, Bool, true, false, ◌&&◌, List, [], ◌∷◌, ◌++◌, ℕ, zero, suc, ◌*◌, length, get_or, eqb}
+use Rattle.std.specs.Prelude.{◌≡◌, Bool, true, false, ◌&&◌, List, [], ◌∷◌, ◌++◌, ℕ, zero, suc, ◌*◌, length, get_or, eqb, Result}
+use Rattle.promises.specs.declared.refusal.Refusal.{Refusal}
 use Rattle.lists.specs.Same.{same}
 use Rattle.promises.specs.Refusal.{outcome}
 use Rattle.identifiers.specs.Lent.{EndsRight}
 use Rattle.catalogue.specs.Catalogue.{Catalogue}
 use Rattle.audit_ledger.specs.Booking.{Counters, counters_for, CountersFor}
-use Rattle.audit_model.specs.declared.calls.CallAnswer.{CallAnswer}
 use Rattle.audit_model.specs.declared.sheet.Status.{Status}
 use Rattle.audit_model.specs.declared.sheet.Sheet.{Sheet}
 use Rattle.audit_model.specs.Sheet.{totals_of, row_shown}
@@ -49,6 +49,6 @@ pub record RowsLent (n : ℕ) (k : Counters) (rows : List ℕ) : Type 0 where
   pub rows_right : length rows ≡ 4 * n
 
 -- `apply_to_unitigs`
-pub record Applies (audited c : Catalogue) (sheet : Sheet) (k : Counters) (rows : List ℕ) (r : CallAnswer) (rows' : List ℕ) : Type 0 where
+pub record Applies (audited c : Catalogue) (sheet : Sheet) (k : Counters) (rows : List ℕ) (r : Result (Unit {0}) Refusal) (rows' : List ℕ) : Type 0 where
   pub answer : call_outcome r ≡ outcome (apply_refusal audited c sheet k rows) tt
   pub left : rows' ≡ applied audited c sheet k rows

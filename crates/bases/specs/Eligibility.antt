@@ -1,8 +1,8 @@
 -- Which reads are eligible, and which refusal a read meets (REFERENCE.md, "Eligibility").
-use Rattle.std.specs.Prelude.{cond, ◌&&◌, List, [], ◌∷◌, ℕ, ◌-◌, length, ltb, leb, eqb}
+use Rattle.std.specs.Prelude.{Bool, true, false, cond, ◌&&◌, List, [], ◌∷◌, ℕ, ◌-◌, length, ltb, leb, eqb, Result, Ok, Err}
+use Rattle.promises.specs.declared.refusal.Refusal.{Refusal}
+use Rattle.promises.specs.Refusal.{refusal_number}
 use Rattle.bases.specs.Read.{Qualities, absent, given, Read, letters}
-use Rattle.bases.specs.declared.eligibility.Eligibility.{Eligibility}
-use Rattle.bases.specs.declared.eligibility.Eligibility.TheVariants.{EmptyRead, QualityLength, PhredByte, Ineligible, Eligible}
 
 -- what is decided of a read: refused by a number, ineligible, or eligible
 pub data Verdict : Type 0 where
@@ -11,12 +11,10 @@ pub data Verdict : Type 0 where
   eligible : Verdict
 
 -- what each answer of the code stands for
-abbrev pub verdict_of : Eligibility → Verdict
-verdict_of EmptyRead = refused 14
-verdict_of QualityLength = refused 15
-verdict_of PhredByte = refused 16
-verdict_of Ineligible = ineligible
-verdict_of Eligible = eligible
+abbrev pub verdict_of : Result Bool Refusal → Verdict
+verdict_of (Err e) = refused (refusal_number e)
+verdict_of (Ok false) = ineligible
+verdict_of (Ok true) = eligible
 
 infixr 25 ◌then◌
 -- the first test decides, unless the read is eligible by it; then the second does

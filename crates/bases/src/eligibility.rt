@@ -4,46 +4,28 @@ ghost use Rattle.bases.specs.Read.{letters, lent, read_of};
 ghost use Rattle.bases.specs.Eligibility.{verdict_of, quality_test, qualities_test, given_test, eligibility};
 
 use crate::base::{MARK, code_in, table};
+use promises::refusal::Refusal;
 
-// What is decided of a read: one of three refusals, or whether it is eligible.
-#[derive(Clone, Copy)]
-pub enum Eligibility {
-    EmptyRead,
-    QualityLength,
-    PhredByte,
-    Ineligible,
-    Eligible,
-}
-
-// What one quality byte decides.
-fn judge_quality(q: u8, floor: u8, offset: u8) -> Eligibility
+// Whether a read is eligible by one quality byte.
+fn judge_quality(q: u8, floor: u8, offset: u8) -> Result<bool, Refusal>
     ensures { verdict_of result ≡ quality_test floor offset q }
 {
-    if q < offset {
-        return Eligibility::PhredByte;
+    if q < offset || 126 < q {
+        return Err(Refusal::PhredByte);
     }
-    if 126 < q {
-        return Eligibility::PhredByte;
-    }
-    if q - offset < floor {
-        return Eligibility::Ineligible;
-    }
-    Eligibility::Eligible
+    Ok(floor <= q - offset)
 }
 
-// What the qualities decide, from the left: the first byte that is outside or low.
-fn judge_qualities(qualities: &[u8], floor: u8, offset: u8) -> Eligibility
+// Whether a read is eligible by its qualities, from the left: the first byte that is outside or low decides.
+fn judge_qualities(qualities: &[u8], floor: u8, offset: u8) -> Result<bool, Refusal>
     ensures { verdict_of result ≡ qualities_test floor offset qualities.now }
 {
-    let mut i = 0;
-    while i < qualities.len() {
-        let judged = judge_quality(qualities[i], floor, offset);
-        let Eligibility::Eligible = judged else {
-            return judged;
-        };
-        i += 1;
+    for q in qualities {
+        if !judge_quality(*q, floor, offset)? {
+            return Ok(false);
+        }
     }
-    Eligibility::Eligible
+    Ok(true)
 }
 
 // Whether every byte is a letter of ACGT in either case.
@@ -51,49 +33,42 @@ fn all_bases(bases: &[u8]) -> bool
     ensures { result ≡ letters bases.now }
 {
     let table = table();
-    let mut i = 0;
-    while i < bases.len() {
-        if code_in(&table, bases[i]) == MARK {
-            return false;
-        }
-        i += 1;
-    }
-    true
+    bases.iter().all(|b| code_in(&table, *b) != MARK)
 }
 
-// What the qualities decide where they are present.
-fn judge_given(bases: &[u8], qualities: &[u8], present: bool, floor: u8, offset: u8) -> Eligibility
+// Whether a read is eligible by its qualities where they are present.
+fn judge_given(
+    bases: &[u8],
+    qualities: &[u8],
+    present: bool,
+    floor: u8,
+    offset: u8,
+) -> Result<bool, Refusal>
     ensures { verdict_of result ≡ given_test floor offset (lent present qualities.now) bases.now }
 {
     if !present {
-        return Eligibility::Eligible;
+        return Ok(true);
     }
     if qualities.len() != bases.len() {
-        return Eligibility::QualityLength;
+        return Err(Refusal::QualityLength);
     }
     judge_qualities(qualities, floor, offset)
 }
 
-// Judges a read: its qualities first, and then its bases.
+// Judges a read, whether it is eligible or one of three refusals: its qualities first, and then its bases.
+#[tactic(auto, unfolding(crate::specs::Eligibility::eligibility))]
 pub fn judge_read(
     bases: &[u8],
     qualities: &[u8],
     present: bool,
     floor: u8,
     offset: u8,
-) -> Eligibility
+) -> Result<bool, Refusal>
     ensures { verdict_of result ≡ eligibility floor offset (read_of bases.now present qualities.now) }
 {
-    if bases.len() == 0 {
-        return Eligibility::EmptyRead;
+    if bases.is_empty() {
+        return Err(Refusal::EmptyRead);
     }
-    let judged = judge_given(bases, qualities, present, floor, offset);
-    let Eligibility::Eligible = judged else {
-        return judged;
-    };
-    if all_bases(bases) {
-        Eligibility::Eligible
-    } else {
-        Eligibility::Ineligible
-    }
+    let qualified = judge_given(bases, qualities, present, floor, offset)?;
+    Ok(qualified && all_bases(bases))
 }

@@ -1,5 +1,7 @@
 -- Lists that fit together, and the share of each fragment.
+use Rattle.std.specs.Prelude.{Ok, Err}
 use mathlib.Core.Path.{◌≡◌, refl, sym, ap, subst, ◌∙◌}
+use Rattle.promises.specs.declared.refusal.Refusal.TheVariants as refusals
 use mathlib.Core.Bool.{Bool, true, false, ◌&&◌}
 use mathlib.Core.List.{List, [], ◌∷◌}
 use Prim.Native.Nat.{ℕ, ◌*◌, ◌/◌, ◌≤◌}
@@ -15,7 +17,6 @@ use Rattle.promises.specs.Refusal.{unless, outcome}
 use Rattle.map_every_start.specs.Entries.{entry_count}
 use Rattle.map_by_index.specs.Work.{Way}
 use Rattle.audit_ledger.specs.Booking.{Counters}
-use Rattle.audit_model.specs.declared.calls.CallAnswer.TheVariants as calls
 use Rattle.audit_model.specs.declared.settings.AuditState.{AuditState}
 use Rattle.audit_model.specs.Settings.{Held}
 use Rattle.audit_model.specs.Opening.{IndexLent}
@@ -64,7 +65,7 @@ module _ (l : FragmentLists) (rows : List ℕ) (fit : lists_fit l (length rows) 
 
 module _ (offset : ℕ) (ss : List (List ℕ)) (way : Way) (ranked : List ℕ) (lent : IndexLent) (h : Held) (l : FragmentLists) (rows entries : List ℕ) where
   -- 25, and nothing is touched
-  pub unfit : lists_fit l (length rows) ≡ false → TestedList offset ss way ranked lent h l (record { answer = calls.Refused 25; state = h.state }) h.counters rows entries rows entries
+  pub unfit : lists_fit l (length rows) ≡ false → TestedList offset ss way ranked lent h l (record { answer = Err refusals.ReadList; state = h.state }) h.counters rows entries rows entries
   unfit e =
       record {
         answer = ap (λ b. outcome (unless b 25) tt) (sym e);
@@ -83,7 +84,7 @@ module _ (offset : ℕ) (ss : List (List ℕ)) (way : Way) (ranked : List ℕ) (
   pub fitting : lists_fit l (length rows) ≡ true → (share : ℕ) → ((length l.ordinals ≡ 0 → ⊥) → share ≡ entry_count entries / length l.ordinals)
       → (state : AuditState) (k : Counters) (rows' entries' : List ℕ)
       → ListAudited offset ss way ranked h (calls_of lent (4 * share) entries (fragments_in l)) (4 * share * length l.ordinals) state k rows' entries entries'
-      → TestedList offset ss way ranked lent h l (record { answer = calls.Accepted; state = state }) k rows entries rows' entries'
+      → TestedList offset ss way ranked lent h l (record { answer = Ok tt; state = state }) k rows entries rows' entries'
   fitting e share equal state k rows' entries' a =
       record {
         answer = ap (λ b. outcome (unless b 25) tt) (sym e);

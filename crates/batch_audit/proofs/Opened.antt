@@ -1,22 +1,21 @@
 -- The call, from the opening's checks on.
-use mathlib.Core.Path.{◌≡◌, refl, sym, ap, subst, ◌∙◌}
+use Rattle.std.specs.Prelude.{Result, Ok, Err}
+use Rattle.promises.specs.declared.refusal.Refusal.{Refusal}
+use mathlib.Core.Path.{◌≡◌, refl, sym, ap, ◌∙◌}
 use mathlib.Core.Bool.{Bool, true, false}
 use mathlib.Core.List.{List, ◌++◌}
 use Prim.Native.Nat.{ℕ, zero, suc, ◌*◌, ◌≤◌}
 use native.Mathlib.Omega.{arith}
 use lib.ListN.{length, take, drop}
-use Rattle.promises.specs.Refusal.{unless, ◌or_else◌, outcome, if_passed}
+use Rattle.promises.specs.Refusal.{refusal_number, unless, ◌or_else◌, outcome, if_passed}
 use Rattle.promises.proofs.Refusing.{stands, outcome_refused, outcome_number}
 use Rattle.catalogue.specs.Catalogue.{Catalogue, mapped, supplied_places}
 use Rattle.catalogue.specs.Ranking.{ranking_outcome}
-use Rattle.catalogue.specs.declared.ranks.Ranking.{Ranking}
-use Rattle.catalogue.specs.declared.ranks.Ranking.TheVariants.{Refused, Ranked}
 use Rattle.index_seeds.specs.Key.{SeedLength}
 use Rattle.index_model.specs.Index.{ranked_sequences, mapped_sequences}
 use Rattle.index_plan.specs.Answers.{PlanRanked}
 use Rattle.index_plan.proofs.Planning.{within_buffer, prefix_length, ranked_mapped}
 use Rattle.audit_ledger.specs.Booking.{Counters}
-use Rattle.audit_model.specs.declared.calls.CallAnswer.TheVariants as calls
 use Rattle.audit_model.specs.Settings.{Held}
 use Rattle.audit_model.specs.Opening.{IndexLent, way_of, opening_refusal}
 use Rattle.audit_model.specs.Run.{Answer, after}
@@ -51,9 +50,10 @@ module _ (q offset : ℕ) (c : Catalogue) (lent : IndexLent) (h : Held) (l : Fra
   unfolding list_refusal
   chain = refl
 
-  -- refused by a number: nothing is written
-  refused_list : (n : ℕ) → (n ≡ 0 → ⊥) → list_refusal q offset c lent h l rows ≡ n → AuditsList q offset c lent h l (record { answer = calls.Refused n; state = h.state }) h.counters rows entries rows entries
-  refused_list n ne e =
+  -- refused: nothing is written
+  refused_list : (refusal : Refusal) → (refusal_number refusal ≡ 0 → ⊥) → list_refusal q offset c lent h l rows ≡ refusal_number refusal → AuditsList q offset c lent h l (record { answer = Err refusal; state = h.state }) h.counters rows entries rows entries
+  refused_list refusal ne e =
+      let n : ℕ = refusal_number refusal in
       record {
         answer = outcome_refused n tt ne ∙ ap (λ z. outcome z tt) (sym e);
         held = sym (ap (λ z. if_passed z done h) e ∙ refused_holds n ne done h);
@@ -61,8 +61,8 @@ module _ (q offset : ℕ) (c : Catalogue) (lent : IndexLent) (h : Held) (l : Fra
         left = sym (ap (λ z. if_passed z (all_shares given ++ drop (list_width q offset c lent h l entries * length l.ordinals) entries) entries) e ∙ refused_written n ne _ entries);
       }
 
-  pub list_refused : (n : ℕ) → opening ≡ n → (n ≡ 0 → ⊥) → AuditsList q offset c lent h l (record { answer = calls.Refused n; state = h.state }) h.counters rows entries rows entries
-  list_refused n e ne = refused_list n ne (chain ∙ stands n opening (unless (lists_fit l (length rows)) 25) ne e)
+  pub list_refused : (refusal : Refusal) → opening ≡ refusal_number refusal → (refusal_number refusal ≡ 0 → ⊥) → AuditsList q offset c lent h l (record { answer = Err refusal; state = h.state }) h.counters rows entries rows entries
+  list_refused refusal e ne = refused_list refusal ne (chain ∙ stands (refusal_number refusal) opening (unless (lists_fit l (length rows)) 25) ne e)
 
   -- they pass: the rest is as in a catalogue that was tested
   module _ (p : opening ≡ 0) where
@@ -103,14 +103,14 @@ module _ (q offset : ℕ) (c : Catalogue) (lent : IndexLent) (h : Held) (l : Fra
 
 -- ---- as the function has it
 
-module _ (q offset : ℕ) (c : Catalogue) (indexed : Bool) (ks rs os : List ℕ) (h : Held) (l : FragmentLists) (rows entries : List ℕ) (r : Ranking) (buffer : List ℕ)
+module _ (q offset : ℕ) (c : Catalogue) (indexed : Bool) (ks rs os : List ℕ) (h : Held) (l : FragmentLists) (rows entries : List ℕ) (r : Result ℕ Refusal) (buffer : List ℕ)
     (p : OpeningRanked q offset c (index_if indexed ks rs os) h.state.settings h.counters r buffer) where
-  pub opening_stands : (n : ℕ) → r ≡ Refused n → AuditsList q offset c (index_if indexed ks rs os) h l (record { answer = calls.Refused n; state = h.state }) h.counters rows entries rows entries
-  opening_stands n told =
-      let w = outcome_number (opening_refusal q offset c (index_if indexed ks rs os) h.state.settings h.counters) n (length (mapped c)) (sym p.answer ∙ ap ranking_outcome told) in
-      list_refused q offset c (index_if indexed ks rs os) h l rows entries n w.0 w.1
+  pub opening_stands : (refusal : Refusal) → r ≡ Err refusal → AuditsList q offset c (index_if indexed ks rs os) h l (record { answer = Err refusal; state = h.state }) h.counters rows entries rows entries
+  opening_stands refusal told =
+      let w = outcome_number (opening_refusal q offset c (index_if indexed ks rs os) h.state.settings h.counters) (refusal_number refusal) (length (mapped c)) (sym p.answer ∙ ap ranking_outcome told) in
+      list_refused q offset c (index_if indexed ks rs os) h l rows entries refusal w.0 w.1
 
-  module _ (seed : SeedLength q) (n : ℕ) (told : r ≡ Ranked n) where
+  module _ (seed : SeedLength q) (n : ℕ) (told : r ≡ Ok n) where
     plan : PlanRanked q c r buffer
     plan = planned q offset c (index_if indexed ks rs os) h.state.settings h.counters r buffer p n told seed
 

@@ -1,12 +1,11 @@
 -- One fragment of a list, as its function has it.
 use mathlib.Core.Path.{◌≡◌, refl, sym, ap, subst, ◌∙◌}
-use mathlib.Core.Bool.{Bool}
 use mathlib.Core.Logic.{◌⊎◌, inl, inr}
-use mathlib.Core.List.{List, [], ◌∷◌, ◌++◌, append_assoc}
+use mathlib.Core.List.{List, [], ◌++◌, append_assoc}
 use Prim.Native.Nat.{ℕ, zero, suc, ◌+◌, ◌-◌, ◌*◌, ◌≤◌, ◌<◌}
 use native.Mathlib.Omega.{arith}
 use native.Mathlib.Numerals.{add-one}
-use native.Mathlib.Nat.{mul-suc, zero-mul}
+use native.Mathlib.Nat.{mul-suc}
 use lib.ListN.{length, get_or, take, drop}
 use borrow.Rule.Slice.PartMut.{put_mid, Post-is}
 use Rattle.lists.specs.Cut.{window, cut}
@@ -29,27 +28,12 @@ use Rattle.batch_fragments.specs.Listed.{call_at, FragmentListed}
 use Rattle.batch_fragments.proofs.Mates.{length_reads, two_stand}
 use Rattle.batch_fragments.proofs.Shares.{length_told, length_share}
 
--- where the share of the i-th fragment begins and ends, in a buffer whose bytes can be counted
-pub record Within (width i long : ℕ) : Type 0 where
-  pub ends : width * i + width ≤ long
-  pub begins : (width * i ≡ 0) ⊎ (width * i < long)
-
-pub share_within : (width i long : ℕ) → width * (i + 1) ≤ long → Within width i long
-share_within width i long h = record { ends = omega (arith, e, h); begins = go width refl }
+-- where the share of the i-th fragment ends
+share_within : (width i long : ℕ) → width * (i + 1) ≤ long → width * i + width ≤ long
+share_within width i long h = omega (arith, e, h)
   where
     e : width * (i + 1) ≡ width * i + width
     e = ap (λ n. width * n) (add-one i) ∙ mul-suc width i
-
-    go : (w : ℕ) → w ≡ width → (width * i ≡ 0) ⊎ (width * i < long)
-    go zero z = inl (ap (λ n. n * i) (sym z) ∙ zero-mul i)
-    go (suc w) z = inr (omega (arith, e, h))
-
-pub begin-fits : (width i long : ℕ) → width * (i + 1) ≤ long → long * 8 ≤ 18446744073709551616 → width * i * 8 < 18446744073709551616
-begin-fits width i long h b = go (share_within width i long h).begins
-  where
-    go : (width * i ≡ 0) ⊎ (width * i < long) → width * i * 8 < 18446744073709551616
-    go (inl z) = omega (arith, z)
-    go (inr l) = omega (arith, l, b)
 
 -- a read by its parts
 pub read_is : (l : ReadLists) (i : ℕ) (role : MateRole) (code : ℕ) (bases : List ℕ) (mark : ℕ) (qualities : List ℕ) → role ≡ role_of code → code ≡ get_or l.roles i 0
@@ -89,4 +73,4 @@ module _ (offset : ℕ) (ss : List (List ℕ)) (way : Way) (ranked : List ℕ) (
       }
     where
       whole : from + width ≡ from + length part
-      whole = omega (arith, ap length stood.observed.left, length_share offset ss way ranked h call, length-window entries from width (share_within width i (length entries) room).ends)
+      whole = omega (arith, ap length stood.observed.left, length_share offset ss way ranked h call, length-window entries from width (share_within width i (length entries) room))

@@ -1,5 +1,5 @@
 -- The fragments of a list, one after the other: what is done, and what is left to do.
-use mathlib.Core.Path.{◌≡◌, refl, sym, ap, ap₂, subst, ◌∙◌}
+use mathlib.Core.Path.{◌≡◌, sym, ap, ap₂, subst, ◌∙◌}
 use mathlib.Core.List.{List, [], ◌∷◌, ◌++◌, append_assoc, append-nil}
 use Prim.Native.Nat.{ℕ, suc, ◌+◌, ◌*◌, ◌≤◌, ◌<◌}
 use native.Mathlib.Omega.{arith}
@@ -44,20 +44,6 @@ module _ (offset : ℕ) (ss : List (List ℕ)) (way : Way) (ranked : List ℕ) (
     pub alike : Alike h₀ h
 
   module _ (same : length ns ≡ length os) (h₀ : Held) (es₀ : List ℕ) (room : width * length os ≤ length es₀) where
-    pub start : (rows : List ℕ) → length rows ≡ 8 * sum ns → Going h₀ es₀ 0 0 h₀ rows es₀
-    start rows e =
-        record {
-          within = omega arith;
-          counted = omega arith;
-          held = refl;
-          told = refl;
-          left = rw mul-zero;
-          behind = refl;
-          rows_long = e;
-          entries_long = refl;
-          alike = record { settings = refl; placements = refl; singles = refl; multi = refl };
-        }
-
     module _ (i at : ℕ) (h : Held) (rows es : List ℕ) (g : Going h₀ es₀ i at h rows es) where
       module _ (more : i < length os) where
         abbrev ordinal : ℕ

@@ -1,7 +1,7 @@
 -- How long the rows and the share of a fragment are, and that settings and counters stay alike.
 use mathlib.Core.Path.{◌≡◌, refl, sym, ap, subst, ◌∙◌}
 use mathlib.Core.Bool.{Bool, true, false, cond, ◌&&◌, ◌||◌}
-use mathlib.Core.List.{List, [], ◌∷◌, ◌++◌, map}
+use mathlib.Core.List.{List, [], ◌∷◌, ◌++◌}
 use Prim.Native.Nat.{ℕ, zero, suc, ◌+◌, ◌*◌, ◌≤◌}
 use native.Mathlib.Omega.{arith}
 use lib.ListN.{length, take, drop, length-append, length-map}
@@ -10,22 +10,16 @@ use lib.Seq.{take_at, drop_at, length-take-le}
 use Rattle.audit_model.specs.Observing.{observe, observed_row, MateRead}
 use Rattle.promises.specs.Refusal.{outcome, if_passed}
 use Rattle.buffers.specs.Placed.{placed}
-use Rattle.buffers.proofs.Storing.{length-placed}
 use Rattle.map_every_start.specs.Entries.{entry_count, cleared}
 use Rattle.map_by_index.specs.Work.{Way}
 use Rattle.map_answers.specs.Answer.{Row}
-use Rattle.map_answers.specs.Bounds.{limit_right}
 use Rattle.map_answers.proofs.Concluding.{length-cleared}
-use Rattle.audit_ledger.specs.Counting.{Ranked}
 use Rattle.audit_ledger.proofs.Booking.{booked_lengths}
-use Rattle.audit_model.specs.declared.settings.Settings.{Settings}
 use Rattle.audit_model.specs.Settings.{Held, held_books}
 use Rattle.audit_model.specs.Fragment.{entries_left, tested_booked, tested_refusal, tested_rows, tested_accepted, tested_written}
 use Rattle.audit_model.specs.Run.{Call}
 use Rattle.audit_model.proofs.Checking.{tested_checked}
 use Rattle.audit_model.proofs.Parts.{length-written}
-use Rattle.audit_observe_read.specs.Observed.{Observable}
-use Rattle.audit_tested.specs.Tested.{Tested}
 use Rattle.batch_lists.specs.Listed.{rows_in, refused_rows, outcome_rows}
 use Rattle.batch_fragments.specs.Listed.{tested_answer, tested_next}
 
@@ -97,12 +91,3 @@ module _ (at : ℕ) (xs b : List ℕ) (k : ℕ) (h : at + length xs ≤ length b
   drop-placed = drop_at (take at b ++ xs) (drop (at + length xs) b) k front ∙ ap (λ n. drop n b) (sym e)
 
 -- ---- what a fragment is lent
-
-pub tested_alike : (indexed : Bool) (q : ℕ) (bases ends ranked ks rs os : List ℕ) (h h' : Held) → Alike h h' → Tested indexed q bases ends ranked ks rs os h.state.settings h.counters → Tested indexed q bases ends ranked ks rs os h'.state.settings h'.counters
-tested_alike indexed q bases ends ranked ks rs os h h' a t =
-    record {
-      observable = subst (λ (s : Settings). Observable (indexed && s.remap) q bases ends ranked ks rs os) (sym a.settings) t.observable;
-      limit = ap (λ (s : Settings). limit_right s.limit) a.settings ∙ t.limit;
-      counters = record { few = omega (arith, a.placements, t.counters.few); each = record { placements = refl; singles = omega (arith, a.singles, a.placements, t.counters.each.singles); multi = omega (arith, a.multi, a.placements, t.counters.each.multi) } };
-      places = subst (λ n. Ranked n ranked) (sym a.placements) t.places;
-    }

@@ -1,5 +1,5 @@
 -- The fragments of a list audited one after the other, in a catalogue that was tested (REFERENCE.md, "Many fragments").
-use Rattle.std.specs.Prelude.{◌≡◌, List, [], ◌∷◌, ◌++◌, ℕ, ◌+◌, ◌*◌, ◌≤◌, length, drop}
+use Rattle.std.specs.Prelude.{◌≡◌, List, [], ◌∷◌, ◌++◌, ℕ, ◌*◌, ◌≤◌, length, drop}
 use Rattle.lists.specs.Sum.{sum}
 use Rattle.promises.specs.Refusal.{outcome, if_passed}
 use Rattle.identifiers.specs.Lent.{EndsRight}

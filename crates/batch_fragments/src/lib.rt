@@ -3,12 +3,12 @@
 
 ghost use Rattle.std.specs.Prelude.{◌+◌, ◌*◌, ◌≤◌, length};
 ghost use Rattle.lists.specs.Cut.{window};
-ghost use Rattle.index_model.specs.Index.{lent_sequences};
+ghost use Rattle.index_model.specs.Index.{sequences_in};
 ghost use Rattle.audit_ledger.specs.Booking.{counters_of, left_counters};
 ghost use Rattle.audit_model.specs.Calls.{lent_held, lent_index};
 ghost use Rattle.audit_observe_read.specs.Observed.{way_if};
 ghost use Rattle.audit_tested.specs.Tested.{Tested};
-ghost use Rattle.batch_lists.specs.Lists.{read_lists, fragment_lists, lent_reads, lent_fragments, fragments_in};
+ghost use Rattle.batch_lists.specs.Lists.{read_lists, fragment_lists, reads_in, lent_fragments, fragments_in};
 ghost use Rattle.batch_lists.specs.Listed.{calls_of};
 ghost use Rattle.batch_fragments.specs.Listed.{ReadsLent, ListsLent, call_at, FragmentListed, ListAudited};
 
@@ -16,7 +16,9 @@ use audit_codes::role_of;
 use audit_model::settings::AuditState;
 use audit_tested::audit_tested;
 use batch_fragment_rows::write_fragment;
-use batch_lists::{byte_or_zero, sequence_or_none};
+use batch_lists::{LentReads, byte_or_zero, sequence_or_none};
+use index_columns::LentIndex;
+use index_model::ranked::RankedTargets;
 
 // Audits the i-th fragment, of `count` reads from a place on, with `width` numbers of the entries as its share, and writes its rows.
 fn audit_listed(
@@ -25,18 +27,9 @@ fn audit_listed(
     placements: &mut [u64],
     singles: &mut [u64],
     multi: &mut [u64],
-    keys: &[u64],
-    ranks: &[u64],
-    positions: &[u64],
-    bases: &[u8],
-    ends: &[usize],
-    ranked: &[usize],
-    roles: &[u8],
-    reads: &[u8],
-    read_ends: &[usize],
-    marks: &[u8],
-    qualities: &[u8],
-    quality_ends: &[usize],
+    index: LentIndex<'_>,
+    targets: RankedTargets<'_>,
+    reads: LentReads<'_>,
     i: usize,
     width: usize,
     at: usize,
@@ -47,36 +40,32 @@ fn audit_listed(
     offset: u8,
     state: AuditState,
 ) -> AuditState
-    requires tested { Tested indexed q bases.now ends.now ranked.now keys.now ranks.now positions.now state.settings
+    requires tested { Tested indexed q targets.bases.now targets.ends.now targets.ranked.now index.keys.now index.ranks.now index.positions.now state.settings
         (counters_of placements.old singles.old multi.old) }
-    requires reads_lent { ReadsLent (read_lists roles.now reads.now read_ends.now marks.now qualities.now quality_ends.now)
+    requires reads_lent { ReadsLent (read_lists reads.roles.now reads.bases.now reads.base_ends.now reads.marks.now reads.qualities.now reads.quality_ends.now)
         × ((width * (i + 1) ≤ length entries.old) × (8 * (at + count) ≤ length rows.old)) }
-    ensures { FragmentListed offset (lent_sequences bases.now ends.now ranked.now) (way_if indexed q) ranked.now (lent_held state placements.old singles.old multi.old)
-        (call_at (lent_index indexed keys.now ranks.now positions.now) (lent_reads roles.now reads.now read_ends.now marks.now qualities.now quality_ends.now) ordinal at count (window entries.old (width * i) width))
+    ensures { FragmentListed offset (sequences_in targets.entry) (way_if indexed q) targets.entry.ranked.now (lent_held state placements.old singles.old multi.old)
+        (call_at (lent_index indexed index.entry.keys.now index.entry.ranks.now index.entry.positions.now) (reads_in reads.entry) ordinal at count (window entries.old (width * i) width))
         (width * i) at result (left_counters placements.new singles.new multi.new) rows.old entries.old rows.new entries.new }
 {
     let next = at + 1;
     let from = width * i;
     let to = from + width;
-    let first = sequence_or_none(reads, read_ends, at);
-    let first_qualities = sequence_or_none(qualities, quality_ends, at);
-    let second = sequence_or_none(reads, read_ends, next);
-    let second_qualities = sequence_or_none(qualities, quality_ends, next);
-    let first_role = role_of(byte_or_zero(roles, at));
-    let second_role = role_of(byte_or_zero(roles, next));
-    let first_present = byte_or_zero(marks, at) == 1;
-    let second_present = byte_or_zero(marks, next) == 1;
+    let first = sequence_or_none(reads.bases, reads.base_ends, at);
+    let first_qualities = sequence_or_none(reads.qualities, reads.quality_ends, at);
+    let second = sequence_or_none(reads.bases, reads.base_ends, next);
+    let second_qualities = sequence_or_none(reads.qualities, reads.quality_ends, next);
+    let first_role = role_of(byte_or_zero(reads.roles, at));
+    let second_role = role_of(byte_or_zero(reads.roles, next));
+    let first_present = byte_or_zero(reads.marks, at) == 1;
+    let second_present = byte_or_zero(reads.marks, next) == 1;
     let audit = audit_tested(
         &mut entries[from..to],
         placements,
         singles,
         multi,
-        keys,
-        ranks,
-        positions,
-        bases,
-        ends,
-        ranked,
+        index,
+        targets,
         first,
         first_qualities,
         second,
@@ -105,39 +94,29 @@ pub fn audit_list(
     placements: &mut [u64],
     singles: &mut [u64],
     multi: &mut [u64],
-    keys: &[u64],
-    ranks: &[u64],
-    positions: &[u64],
-    bases: &[u8],
-    ends: &[usize],
-    ranked: &[usize],
+    index: LentIndex<'_>,
+    targets: RankedTargets<'_>,
     ordinals: &[u64],
     counts: &[u64],
-    roles: &[u8],
-    reads: &[u8],
-    read_ends: &[usize],
-    marks: &[u8],
-    qualities: &[u8],
-    quality_ends: &[usize],
+    reads: LentReads<'_>,
     width: usize,
     indexed: bool,
     q: usize,
     offset: u8,
     state: AuditState,
 ) -> AuditState
-    requires tested { Tested indexed q bases.now ends.now ranked.now keys.now ranks.now positions.now state.settings
+    requires tested { Tested indexed q targets.bases.now targets.ends.now targets.ranked.now index.keys.now index.ranks.now index.positions.now state.settings
         (counters_of placements.old singles.old multi.old) }
-    requires lists_lent { ListsLent (fragment_lists ordinals.now counts.now (read_lists roles.now reads.now read_ends.now marks.now qualities.now quality_ends.now))
+    requires lists_lent { ListsLent (fragment_lists ordinals.now counts.now (read_lists reads.roles.now reads.bases.now reads.base_ends.now reads.marks.now reads.qualities.now reads.quality_ends.now))
         width rows.old entries.old }
-    ensures { ListAudited offset (lent_sequences bases.now ends.now ranked.now) (way_if indexed q) ranked.now (lent_held state placements.old singles.old multi.old)
-        (calls_of (lent_index indexed keys.now ranks.now positions.now) width entries.old
-        (fragments_in (lent_fragments ordinals.now counts.now (lent_reads roles.now reads.now read_ends.now marks.now qualities.now quality_ends.now))))
+    ensures { ListAudited offset (sequences_in targets.entry) (way_if indexed q) targets.entry.ranked.now (lent_held state placements.old singles.old multi.old)
+        (calls_of (lent_index indexed index.entry.keys.now index.entry.ranks.now index.entry.positions.now) width entries.old
+        (fragments_in (lent_fragments ordinals.now counts.now (reads_in reads.entry))))
         (width * length ordinals.now) result (left_counters placements.new singles.new multi.new) rows.new entries.old entries.new }
 {
     let mut held = state;
     let mut at: usize = 0;
-    let mut i: usize = 0;
-    while i < ordinals.len() {
+    for i in 0..ordinals.len() {
         let count = counts[i] as usize;
         held = audit_listed(
             rows,
@@ -145,18 +124,9 @@ pub fn audit_list(
             placements,
             singles,
             multi,
-            keys,
-            ranks,
-            positions,
-            bases,
-            ends,
-            ranked,
-            roles,
+            index,
+            targets,
             reads,
-            read_ends,
-            marks,
-            qualities,
-            quality_ends,
             i,
             width,
             at,
@@ -168,7 +138,6 @@ pub fn audit_list(
             held,
         );
         at += count;
-        i += 1;
     }
     held
 }

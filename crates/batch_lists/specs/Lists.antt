@@ -1,4 +1,5 @@
 -- Many fragments lent as lists, and refusal 25 (REFERENCE.md, "Many fragments").
+use Rattle.batch_lists.specs.declared.LentReads.{LentReads}
 use Rattle.std.specs.Prelude.{Bool, ◌&&◌, List, [], ◌∷◌, ℕ, zero, suc, ◌+◌, ◌*◌, length, get_or, eqb}
 use Rattle.lists.specs.Cut.{cut, ends_within}
 use Rattle.lists.specs.Filter.{every}
@@ -78,6 +79,10 @@ fragment_lists os ns reads = record { ordinals = os; counts = ns; reads = reads 
 -- the same, as the slices of a call hold it when the call is made
 abbrev pub lent_reads : List ℕ → List ℕ → List ℕ → List ℕ → List ℕ → List ℕ → ReadLists
 lent_reads rs bs bes ms qs qes = read_lists rs bs bes ms qs qes
+
+-- those that lent reads hold
+abbrev pub reads_in : LentReads → ReadLists
+reads_in r = lent_reads r.roles.now r.bases.now r.base_ends.now r.marks.now r.qualities.now r.quality_ends.now
 
 abbrev pub lent_fragments : List ℕ → List ℕ → ReadLists → FragmentLists
 lent_fragments os ns reads = fragment_lists os ns reads

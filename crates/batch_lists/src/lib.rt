@@ -4,18 +4,29 @@
 ghost use Rattle.std.specs.Prelude.{◌≡◌, [], length, get_or, leb};
 ghost use Rattle.lists.specs.Filter.{every};
 ghost use Rattle.identifiers.specs.Lent.{lent_cut, EndsRight};
-ghost use Rattle.batch_lists.specs.Lists.{lengths_fit, lists_fit, lent_reads, lent_fragments};
+ghost use Rattle.batch_lists.specs.Lists.{lengths_fit, lists_fit, reads_in, lent_fragments};
 
-use audit_model::calls::CallAnswer;
 use audit_model::settings::AuditState;
 use audit_sheet::balance::sum_agrees;
 use catalogue::bounds::ends_within;
 use identifiers::sequences::sequence_at;
+use promises::refusal::Refusal;
+
+// The reads of fragments as they are lent: roles, bases with ends, and qualities with ends and a mark that tells whether a read has some.
+#[derive(Clone, Copy)]
+pub struct LentReads<'a> {
+    pub roles: &'a [u8],
+    pub bases: &'a [u8],
+    pub base_ends: &'a [usize],
+    pub marks: &'a [u8],
+    pub qualities: &'a [u8],
+    pub quality_ends: &'a [usize],
+}
 
 // A list of fragments answers, and gives the state that the run goes on from.
 #[derive(Clone, Copy)]
 pub struct FragmentsAudit {
-    pub answer: CallAnswer,
+    pub answer: Result<(), Refusal>,
     pub state: AuditState,
 }
 
@@ -23,74 +34,33 @@ pub struct FragmentsAudit {
 fn all_within(bytes: &[u8], most: u8) -> bool
     ensures { result ≡ every (λ b. leb b most) bytes.now }
 {
-    let mut i: usize = 0;
-    while i < bytes.len() {
-        if most < bytes[i] {
-            return false;
-        }
-        i += 1;
-    }
-    true
+    bytes.iter().all(|b| *b <= most)
 }
 
 // Whether the lists of reads have so many elements, and eight numbers for each row.
 fn lengths_fit(reads: usize, bases: usize, marks: usize, qualities: usize, rows: usize) -> bool
     ensures { result ≡ lengths_fit reads bases marks qualities rows }
 {
-    if bases != reads {
-        return false;
-    }
-    if marks != reads {
-        return false;
-    }
-    if qualities != reads {
-        return false;
-    }
-    if rows % 8 != 0 {
-        return false;
-    }
-    rows / 8 == reads
+    bases == reads && marks == reads && qualities == reads && rows % 8 == 0 && rows / 8 == reads
 }
 
 // Whether the lists of fragments fit together, with so many numbers for rows: 25 where they do not.
-pub fn lists_fit(
-    ordinals: &[u64],
-    counts: &[u64],
-    roles: &[u8],
-    bases: &[u8],
-    base_ends: &[usize],
-    marks: &[u8],
-    qualities: &[u8],
-    quality_ends: &[usize],
-    rows: usize,
-) -> bool
-    ensures { result ≡ lists_fit (lent_fragments ordinals.now counts.now (lent_reads roles.now bases.now base_ends.now marks.now qualities.now quality_ends.now)) rows }
+pub fn lists_fit(ordinals: &[u64], counts: &[u64], reads: LentReads<'_>, rows: usize) -> bool
+    ensures { result ≡ lists_fit (lent_fragments ordinals.now counts.now (reads_in reads.entry)) rows }
 {
-    if counts.len() != ordinals.len() {
-        return false;
-    }
-    if !sum_agrees(counts, roles.len() as u64) {
-        return false;
-    }
-    if !lengths_fit(
-        roles.len(),
-        base_ends.len(),
-        marks.len(),
-        quality_ends.len(),
-        rows,
-    ) {
-        return false;
-    }
-    if !ends_within(base_ends, bases.len()) {
-        return false;
-    }
-    if !ends_within(quality_ends, qualities.len()) {
-        return false;
-    }
-    if !all_within(roles, 2) {
-        return false;
-    }
-    all_within(marks, 1)
+    counts.len() == ordinals.len()
+        && sum_agrees(counts, reads.roles.len() as u64)
+        && lengths_fit(
+            reads.roles.len(),
+            reads.base_ends.len(),
+            reads.marks.len(),
+            reads.quality_ends.len(),
+            rows,
+        )
+        && ends_within(reads.base_ends, reads.bases.len())
+        && ends_within(reads.quality_ends, reads.qualities.len())
+        && all_within(reads.roles, 2)
+        && all_within(reads.marks, 1)
 }
 
 // The sequence at a place, or an empty one behind the last.

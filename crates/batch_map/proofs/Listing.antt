@@ -1,4 +1,6 @@
 -- Refusals of a list of reads, and from ranked sequences to the catalogue.
+use Rattle.std.specs.Prelude.{Result, Ok, Err}
+use Rattle.promises.specs.declared.refusal.Refusal.{Refusal}
 use mathlib.Core.Path.{◌≡◌, refl, sym, ap, ◌∙◌}
 use mathlib.Core.Bool.{Bool, true, false}
 use mathlib.Core.List.{List, []}
@@ -11,11 +13,9 @@ use borrow.Author.Tests.{eq-eqb, ne_eqb, eqb-true, eqb-false}
 use Rattle.lists.specs.Cut.{window, cut, ends_within}
 use Rattle.lists.proofs.Cases.{by_test, and-true}
 use Rattle.lists.proofs.Cut.{length_cut}
-use Rattle.promises.specs.Refusal.{unless, ◌or_else◌}
+use Rattle.promises.specs.Refusal.{unless, ◌or_else◌, refusal_number}
 use Rattle.promises.proofs.Refusing.{first_stands, none_first, passed}
 use Rattle.catalogue.specs.Catalogue.{Catalogue, supplied_places}
-use Rattle.catalogue.specs.declared.ranks.Ranking.{Ranking}
-use Rattle.catalogue.specs.declared.ranks.Ranking.TheVariants.{Refused, Ranked}
 use Rattle.index_model.specs.Index.{index, index_of, mapped_sequences, ranked_sequences, index_refusal, columns_of}
 use Rattle.index_plan.specs.Answers.{PlanRanked}
 use Rattle.index_plan.proofs.Planning.{no_refusal, ranked_mapped, not-zero, test_refused}
@@ -100,14 +100,15 @@ module _ (q : ℕ) (ss : List (List ℕ)) (ranked ks rs os : List ℕ) (limit : 
 held_index : (t : Bool) (n : ℕ) → (unless t 6 or_else n) ≡ 0 → t ≡ true
 held_index t n z = passed t 6 (λ e. omega arith) (none_first (unless t 6) n z)
 
-module _ (q : ℕ) (c : Catalogue) (r : Ranking) (buffer : List ℕ) (p : PlanRanked q c r buffer) (ks rs os : List ℕ) (limit : ℕ) (bytes ends rows entries : List ℕ) where
-  pub reads_refused : (n : ℕ) → r ≡ Refused n → MapsReads q c ks rs os limit bytes ends n rows entries rows entries
+module _ (q : ℕ) (c : Catalogue) (r : Result ℕ Refusal) (buffer : List ℕ) (p : PlanRanked q c r buffer) (ks rs os : List ℕ) (limit : ℕ) (bytes ends rows entries : List ℕ) where
+  pub reads_refused : (e : Refusal) → r ≡ Err e → MapsReads q c ks rs os limit bytes ends (refusal_number e) rows entries rows entries
   unfolding reads_refusal
-  reads_refused n e =
-      let ne = not-zero q c r buffer p n e in
+  reads_refused e told =
+      let n : ℕ = refusal_number e in
+      let ne = not-zero q c r buffer p e told in
       let rest : ℕ = list_refusal limit bytes ends (length rows) in
       record {
-        refusal = first_stands n rest ne ∙ ap (λ m. m or_else rest) (test_refused q c r buffer p n e ks rs os);
+        refusal = first_stands n rest ne ∙ ap (λ m. m or_else rest) (test_refused q c r buffer p e told ks rs os);
         untouched = λ z. (refl, refl);
         mapped = λ z. absurd (ne z);
       }
@@ -117,7 +118,7 @@ module _ (q : ℕ) (c : Catalogue) (r : Ranking) (buffer : List ℕ) (p : PlanRa
   unfolding map_refusal
   read_refused z read n = rw z refl
 
-  module _ (k : ℕ) (e : r ≡ Ranked k) where
+  module _ (k : ℕ) (e : r ≡ Ok k) where
     pub reads_done : (x : ℕ) (rows' entries' : List ℕ) → RankedReads q (ranked_sequences c.bases c.base_ends (take k buffer)) (take k buffer) ks rs os limit bytes ends x rows entries rows' entries' → MapsReads q c ks rs os limit bytes ends x rows entries rows' entries'
     unfolding reads_refusal index_refusal
     reads_done x rows' entries' a =

@@ -2,35 +2,39 @@
 #![tactic(auto)]
 
 ghost use Rattle.std.specs.Prelude.{◌≡◌, ◌*◌, ◌/◌, ◌≤◌};
-ghost use Rattle.catalogue.specs.Catalogue.{lent_catalogue};
+ghost use Rattle.catalogue.specs.Catalogue.{catalogue_in};
 ghost use Rattle.index_seeds.specs.Key.{SeedLength};
-ghost use Rattle.index_model.specs.Index.{Lent, lent_sequences};
+ghost use Rattle.index_model.specs.Index.{Lent, sequences_in};
 ghost use Rattle.batch_map.specs.Reads.{list_refusal, RankedReads, MapsReads};
+ghost use Rattle.promises.specs.Refusal.{test_number};
 
 use batch_reads::map_shares;
 use catalogue::bounds::ends_within;
-use catalogue::ranks::Ranking;
+use catalogue::lent::LentCatalogue;
+use index_columns::LentIndex;
+use index_model::ranked::RankedTargets;
 use index_model::test::is_index;
 use index_plan::rank_checked;
 use map_answers::bounds::limit_right;
+use promises::refusal::Refusal;
 
-// Tests a limit and a list of reads: refusals 9 and 25, or 0.
-fn check_reads(reads: &[u8], read_ends: &[usize], rows: usize, limit: u64) -> u64
-    ensures { result ≡ list_refusal limit reads.now read_ends.now rows }
+// Tests a limit and a list of reads: refusals 9 and 25, or none.
+fn check_reads(reads: &[u8], read_ends: &[usize], rows: usize, limit: u64) -> Result<(), Refusal>
+    ensures { test_number result ≡ list_refusal limit reads.now read_ends.now rows }
 {
     if !limit_right(limit) {
-        return 9;
+        return Err(Refusal::CandidateLimit);
     }
     if !ends_within(read_ends, reads.len()) {
-        return 25;
+        return Err(Refusal::ReadList);
     }
     if rows % 8 != 0 {
-        return 25;
+        return Err(Refusal::ReadList);
     }
     if rows / 8 != read_ends.len() {
-        return 25;
+        return Err(Refusal::ReadList);
     }
-    0
+    Ok(())
 }
 
 // The entries that each of n can have.
@@ -43,84 +47,51 @@ pub fn share_of(entries: usize, n: usize) -> usize
     entries / n
 }
 
-// Tests the index and the list of reads, and maps them: refusals 6, 9 and 25, or 0.
+// Tests the index and the list of reads, and maps them: refusals 6, 9 and 25, or none.
 fn map_ranked_reads(
     rows: &mut [u64],
     entries: &mut [u64],
-    bases: &[u8],
-    ends: &[usize],
-    ranked: &[usize],
-    keys: &[u64],
-    ranks: &[u64],
-    positions: &[u64],
+    targets: RankedTargets<'_>,
+    index: LentIndex<'_>,
     q: usize,
     reads: &[u8],
     read_ends: &[usize],
     limit: u64,
-) -> u64
-    requires { Lent bases.now ends.now ranked.now × SeedLength q }
-    ensures { RankedReads q (lent_sequences bases.now ends.now ranked.now) ranked.now keys.now ranks.now positions.now limit reads.now read_ends.now result rows.old entries.old rows.new entries.new }
+) -> Result<(), Refusal>
+    requires { Lent targets.bases.now targets.ends.now targets.ranked.now × SeedLength q }
+    ensures { RankedReads q (sequences_in targets.entry) targets.entry.ranked.now index.entry.keys.now index.entry.ranks.now index.entry.positions.now limit reads.now read_ends.now (test_number result) rows.old entries.old rows.new entries.new }
 {
-    if !is_index(keys, ranks, positions, bases, ends, ranked, q) {
-        return 6;
+    if !is_index(index, targets, q) {
+        return Err(Refusal::StaleIndex);
     }
-    let refusal = check_reads(reads, read_ends, rows.len(), limit);
-    if refusal != 0 {
-        return refusal;
-    }
+    check_reads(reads, read_ends, rows.len(), limit)?;
     let share = share_of(entries.len() / 4, read_ends.len());
     map_shares(
-        rows, entries, bases, ends, ranked, keys, ranks, positions, q, reads, read_ends, limit,
-        share,
+        rows, entries, targets, index, q, reads, read_ends, limit, share,
     );
-    0
+    Ok(())
 }
 
-// Maps many reads: refusals 1 to 4, 6, 9 and 25, and then nothing is touched; or 0, and read i has the row and the
+// Maps many reads: refusals 1 to 4, 6, 9 and 25, and then nothing is touched; or none, and read i has the row and the
 // entries that `map` gives it with its share.
 pub fn map_reads(
     rows: &mut [u64],
     entries: &mut [u64],
-    keys: &[u64],
-    ranks: &[u64],
-    positions: &[u64],
-    identifiers: &[u8],
-    identifier_ends: &[usize],
-    bases: &[u8],
-    base_ends: &[usize],
-    marks: &[u8],
+    index: LentIndex<'_>,
+    catalogue: LentCatalogue<'_>,
     q: usize,
     reads: &[u8],
     read_ends: &[usize],
     limit: u64,
-) -> u64
-    ensures { MapsReads q (lent_catalogue identifiers.now identifier_ends.now bases.now base_ends.now marks.now) keys.now ranks.now positions.now limit reads.now read_ends.now result rows.old entries.old rows.new entries.new }
+) -> Result<(), Refusal>
+    ensures { MapsReads q (catalogue_in catalogue.entry) index.entry.keys.now index.entry.ranks.now index.entry.positions.now limit reads.now read_ends.now (test_number result) rows.old entries.old rows.new entries.new }
 {
     let mut places = [0usize; 4096];
-    let ranking = rank_checked(
-        &mut places,
-        identifiers,
-        identifier_ends,
-        bases,
-        base_ends,
-        marks,
-        q,
-    );
-    match ranking {
-        Ranking::Refused(n) => n,
-        Ranking::Ranked(k) => map_ranked_reads(
-            rows,
-            entries,
-            bases,
-            base_ends,
-            &places[..k],
-            keys,
-            ranks,
-            positions,
-            q,
-            reads,
-            read_ends,
-            limit,
-        ),
-    }
+    let k = rank_checked(&mut places, catalogue, q)?;
+    let targets = RankedTargets {
+        bases: catalogue.bases,
+        ends: catalogue.base_ends,
+        ranked: &places[..k],
+    };
+    map_ranked_reads(rows, entries, targets, index, q, reads, read_ends, limit)
 }

@@ -1,4 +1,6 @@
 -- Reads mapped one after the other, each into its share.
+use Rattle.std.specs.Prelude.{Result, Err}
+use Rattle.promises.specs.declared.refusal.Refusal.{Refusal}
 use mathlib.Core.Path.{◌≡◌, refl, sym, ap, ap₂, ◌∙◌}
 use mathlib.Core.List.{List, []}
 use Prim.Native.Nat.{ℕ, suc, ◌+◌, ◌*◌, ◌<◌, ◌≤◌}
@@ -11,24 +13,21 @@ use borrow.Author.Tests.{ltb-true, ltb-false}
 use Rattle.lists.specs.Cut.{window, cut}
 use Rattle.lists.proofs.Cases.{by_test}
 use Rattle.lists.proofs.Cut.{length-window, length_cut}
-use Rattle.promises.specs.Refusal.{Outcome}
+use Rattle.promises.specs.Refusal.{Outcome, refusal_number}
 use Rattle.promises.proofs.Refusing.{none_second}
 use Rattle.buffers.specs.Placed.{placed}
 use Rattle.buffers.proofs.Storing.{length-placed}
 use Rattle.buffers.proofs.Placed.{placed_there, placed-before, placed-behind, placed_self}
 use Rattle.map_places.specs.Place.{groups}
 use Rattle.map_every_start.specs.Entries.{entry_count}
-use Rattle.map_by_index.specs.Work.{by_index}
 use Rattle.map_answers.specs.Answer.{Row, answer_of, room_refusal}
-use Rattle.map_search.specs.Answered.{PartSearched}
-use Rattle.map_answers.specs.declared.answer.MapAnswer.{MapAnswer}
-use Rattle.map_answers.specs.declared.answer.MapAnswer.TheVariants as answers
 use Rattle.map_search.proofs.Parts.{read_entries-length}
 use Rattle.indexed_mapper.specs.Map.{read_refusal, ranked_refusal}
 use Rattle.indexed_mapper.proofs.Mapping.{read_refused}
 use Rattle.batch_rows.specs.Rows.{row_numbers}
 use Rattle.batch_reads.specs.Shares.{ReadsMapped, ShareMapped, RankedMapped, ranked_answer, ranked_entries}
 use Rattle.batch_rows.proofs.Writing.{row_long}
+use Rattle.map_answers.specs.declared.answer.Mapping.{Mapping}
 
 -- ---- products
 
@@ -46,13 +45,10 @@ share_length ss ranked read limit part =
 
 module _ (q : ℕ) (ss : List (List ℕ)) (ranked read : List ℕ) (limit from width : ℕ) (b : List ℕ) where
   -- refused before a search, with nothing touched
-  pub share_refused : from + width ≤ length b → (n : ℕ) → n ≡ read_refusal read limit → (n ≡ 0 → ⊥) → ShareMapped q ss ranked read limit from width (answers.Refused n) b b
-  share_refused h n e ne =
-      let r = read_refused q ss ranked read limit (window b from width) n e ne in
+  pub share_refused : from + width ≤ length b → (e : Refusal) → refusal_number e ≡ read_refusal read limit → ShareMapped q ss ranked read limit from width (Err e) b b
+  share_refused h e told =
+      let r = read_refused q ss ranked read limit (window b from width) e told in
       record { answer = r.answer; share = sym (placed_self from width b h) ∙ ap (λ l. placed from l b) r.entries }
-
-  pub share_searched : read_refusal read limit ≡ 0 → (r : MapAnswer) (b' : List ℕ) → PartSearched (by_index q) ss ranked read limit from width r b b' → ShareMapped q ss ranked read limit from width r b b'
-  share_searched e r b' s = record { answer = rw e s.answer; share = rw e s.part }
 
 -- ---- reads mapped one after the other
 
@@ -145,9 +141,6 @@ module _ (q : ℕ) (ss : List (List ℕ)) (ranked : List ℕ) (limit : ℕ) (byt
   count : length (cut ends bytes) ≡ length ends
   count = length_cut 0 ends bytes
 
-  pub shares_start : RankedShares q ss ranked limit bytes ends share rows₀ entries₀ 0 rows₀ entries₀
-  shares_start = shares_none one_answer one_after (cut ends bytes) (4 * share) rows₀ entries₀
-
   module _ (i : ℕ) (rows entries : List ℕ) (s : RankedShares q ss ranked limit bytes ends share rows₀ entries₀ i rows entries) where
     pub shares_end : length ends ≤ i → RankedMapped q ss ranked limit bytes ends share rows entries₀ entries
     shares_end h = shares_all one_answer one_after (cut ends bytes) (4 * share) rows₀ entries₀ i rows entries s (omega (arith, count))
@@ -162,13 +155,10 @@ module _ (q : ℕ) (ss : List (List ℕ)) (ranked : List ℕ) (limit : ℕ) (byt
       wide' : 4 * share * length (cut ends bytes) ≤ length entries₀
       wide' = rw count wide
 
-      pub shares-row : 8 * i + 8 ≤ length rows
-      shares-row = row_room one_answer one_after (cut ends bytes) (4 * share) rows₀ entries₀ i rows entries s here' room' wide'
-
       pub shares_share : 4 * share * i + 4 * share ≤ length entries
       shares_share = share_room one_answer one_after (cut ends bytes) (4 * share) rows₀ entries₀ i rows entries s here' room' wide'
 
-      module _ (read : List ℕ) (r : MapAnswer) (rows' entries' : List ℕ) (taken : read ≡ get_or (cut ends bytes) i []) (mapped : ShareMapped q ss ranked read limit (4 * share * i) (4 * share) r entries entries') (put : rows' ≡ placed (8 * i) (row_numbers (answer_of r)) rows) where
+      module _ (read : List ℕ) (r : Result Mapping Refusal) (rows' entries' : List ℕ) (taken : read ≡ get_or (cut ends bytes) i []) (mapped : ShareMapped q ss ranked read limit (4 * share * i) (4 * share) r entries entries') (put : rows' ≡ placed (8 * i) (row_numbers (answer_of r)) rows) where
         long : length (window entries (4 * share * i) (4 * share)) ≡ 4 * share
         long = length-window entries (4 * share * i) (4 * share) shares_share
 

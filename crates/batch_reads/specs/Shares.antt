@@ -1,5 +1,6 @@
 -- Reads mapped one after the other, each into its share of the entries (REFERENCE.md, "Many reads").
-use Rattle.std.specs.Prelude.{◌≡◌, List, [], ℕ, ◌*◌, ◌<◌, length, get_or, drop}
+use Rattle.std.specs.Prelude.{◌≡◌, List, [], ℕ, ◌*◌, ◌<◌, length, get_or, drop, Result}
+use Rattle.promises.specs.declared.refusal.Refusal.{Refusal}
 use Rattle.lists.specs.Cut.{window, cut}
 use Rattle.promises.specs.Refusal.{Outcome}
 use Rattle.buffers.specs.Placed.{placed}
@@ -7,9 +8,9 @@ use Rattle.map_places.specs.Place.{groups}
 use Rattle.map_every_start.specs.Entries.{entry_count}
 use Rattle.map_by_index.specs.Work.{work}
 use Rattle.map_answers.specs.Answer.{Row, answer_of, read_answer, read_entries}
-use Rattle.map_answers.specs.declared.answer.MapAnswer.{MapAnswer}
 use Rattle.indexed_mapper.specs.Map.{ranked_refusal}
 use Rattle.batch_rows.specs.Rows.{row_numbers}
+use Rattle.map_answers.specs.declared.answer.Mapping.{Mapping}
 
 -- each read has its row and its share of the entries, and nothing behind the shares is touched
 pub record ReadsMapped (answer : List ℕ → Outcome Row) (after : List ℕ → List ℕ → List ℕ) (reads : List (List ℕ)) (width : ℕ) (rows' entries entries' : List ℕ) : Type 0 where
@@ -28,7 +29,7 @@ abbrev pub ranked_entries : List (List ℕ) → List ℕ → List ℕ → ℕ �
 ranked_entries ss ranked read limit buffer = read_entries (ranked_refusal ss read limit (entry_count buffer)) ranked (length read) limit (groups ss read) buffer
 
 -- one read was mapped into `width` numbers from a place on
-pub record ShareMapped (q : ℕ) (ss : List (List ℕ)) (ranked read : List ℕ) (limit from width : ℕ) (r : MapAnswer) (entries entries' : List ℕ) : Type 0 where
+pub record ShareMapped (q : ℕ) (ss : List (List ℕ)) (ranked read : List ℕ) (limit from width : ℕ) (r : Result Mapping Refusal) (entries entries' : List ℕ) : Type 0 where
   pub answer : answer_of r ≡ ranked_answer q ss read limit (entry_count (window entries from width))
   pub share : entries' ≡ placed from (ranked_entries ss ranked read limit (window entries from width)) entries
 

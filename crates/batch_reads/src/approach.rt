@@ -46,12 +46,10 @@ fn first_places(
 {
     let table = table();
     let n = least(BLOCK, read_ends.len() - from);
-    let mut j = 0;
-    while j < n {
+    for j in 0..n {
         let key = first_key(&table, q, reads, read_ends, from + j, strand);
         sought[j] = key;
         places[j] = expected(keys, key);
-        j += 1;
     }
 }
 
@@ -59,10 +57,8 @@ fn first_places(
 fn go_nearer(places: &mut [usize; 32], sought: &[u64; 32], keys: &[u64])
     requires { Rising keys.now }
 {
-    let mut j = 0;
-    while j < BLOCK {
+    for j in 0..BLOCK {
         places[j] = nearer(keys, sought[j], places[j]);
-        j += 1;
     }
 }
 

@@ -1,36 +1,36 @@
 // The answer for a read written as a row of eight numbers.
 #![tactic(auto)]
 
-ghost use Rattle.std.specs.Prelude.{◌≡◌, ◌+◌, ◌≤◌, length};
-ghost use Rattle.promises.specs.Refusal.{refused};
+ghost use Rattle.std.specs.Prelude.{◌≡◌, ◌+◌, ◌≤◌, length, Ok};
+ghost use Rattle.promises.specs.Refusal.{refused, refusal_number};
 ghost use Rattle.buffers.specs.Placed.{placed};
 ghost use Rattle.map_answers.specs.Answer.{answer_of};
 ghost use Rattle.batch_rows.specs.Rows.{row_numbers};
 
 use buffers::write_four;
-use map_answers::answer::{MapAnswer, Mapping, state_number};
+use map_answers::answer::{Mapping, state_number};
+use promises::refusal::Refusal;
 
 // Writes the row of a refusal.
-fn write_refused(rows: &mut [u64], at: usize, n: u64)
+fn write_refused(rows: &mut [u64], at: usize, refusal: Refusal)
     requires { at + 8 ≤ length rows.old }
-    ensures { rows.new ≡ placed at (row_numbers (refused n)) rows.old }
+    ensures { rows.new ≡ placed at (row_numbers (refused (refusal_number refusal))) rows.old }
 {
-    write_four(rows, at, n, 0, 0, 0);
+    write_four(rows, at, refusal.number(), 0, 0, 0);
     write_four(rows, at + 4, 0, 0, 0, 0);
 }
 
 // Writes the row of a mapped read.
 fn write_mapped(rows: &mut [u64], at: usize, m: Mapping)
     requires { at + 8 ≤ length rows.old }
-    ensures { rows.new ≡ placed at (row_numbers (answer_of (MapAnswer.Mapped m))) rows.old }
+    ensures { rows.new ≡ placed at (row_numbers (answer_of (Ok m))) rows.old }
 {
-    let state = m.state;
     let work = m.work;
     write_four(
         rows,
         at,
         0,
-        state_number(state),
+        state_number(m.state),
         m.groups as u64,
         work.lookups,
     );
@@ -45,12 +45,12 @@ fn write_mapped(rows: &mut [u64], at: usize, m: Mapping)
 }
 
 // Writes the row of an answer: refusal, state, groups, lookups, hits, examined, comparisons, seen.
-pub fn write_row(rows: &mut [u64], at: usize, answer: MapAnswer)
+pub fn write_row(rows: &mut [u64], at: usize, answer: Result<Mapping, Refusal>)
     requires { at + 8 ≤ length rows.old }
     ensures { rows.new ≡ placed at (row_numbers (answer_of answer)) rows.old }
 {
     match answer {
-        MapAnswer::Refused(n) => write_refused(rows, at, n),
-        MapAnswer::Mapped(m) => write_mapped(rows, at, m),
+        Err(refusal) => write_refused(rows, at, refusal),
+        Ok(m) => write_mapped(rows, at, m),
     }
 }

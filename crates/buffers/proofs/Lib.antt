@@ -1,4 +1,3 @@
 pub mod Storing
 pub mod Placed
-mod Copying
 mod Filling

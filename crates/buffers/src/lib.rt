@@ -8,7 +8,7 @@ ghost use Rattle.buffers.specs.Placed.{placed};
 pub fn least(a: usize, b: usize) -> usize
     ensures { result ≡ min a b }
 {
-    if a < b { a } else { b }
+    a.min(b)
 }
 
 // Writes four numbers from a place on.
@@ -27,12 +27,7 @@ pub fn copy_numbers(to: &mut [u64], at: usize, numbers: &[u64])
     requires { at + length numbers.now ≤ length to.old }
     ensures { to.new ≡ placed at numbers.now to.old }
 {
-    let n = numbers.len();
-    let mut i: usize = 0;
-    while i < n {
-        to[at + i] = numbers[i];
-        i += 1;
-    }
+    to[at..at + numbers.len()].copy_from_slice(numbers);
 }
 
 // Sets the first n numbers to zero.
@@ -40,9 +35,5 @@ pub fn clear(numbers: &mut [u64], n: usize)
     requires { n ≤ length numbers.old }
     ensures { numbers.new ≡ placed 0 (replicate n 0) numbers.old }
 {
-    let mut i: usize = 0;
-    while i < n {
-        numbers[i] = 0;
-        i += 1;
-    }
+    numbers[..n].fill(0);
 }

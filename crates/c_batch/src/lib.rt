@@ -2,15 +2,18 @@
 #![tactic(auto)]
 
 ghost use Rattle.std.specs.Prelude.{true};
-ghost use Rattle.catalogue.specs.Catalogue.{lent_catalogue};
+ghost use Rattle.catalogue.specs.Catalogue.{catalogue_in};
 ghost use Rattle.audit_ledger.specs.Booking.{lent_counters, left_counters};
 ghost use Rattle.audit_model.specs.Calls.{lent_index};
-ghost use Rattle.batch_lists.specs.Lists.{lent_reads, lent_fragments};
+ghost use Rattle.batch_lists.specs.Lists.{reads_in, lent_fragments};
 ghost use Rattle.c_calls.specs.Calls.{AuditsListNumbers};
 
 use batch_audit::fragments;
-use c_calls::number_of;
+use batch_lists::LentReads;
 use c_state::{is_state, put_state, state_of};
+use catalogue::lent::LentCatalogue;
+use index_columns::LentIndex;
+use promises::refusal::number_of;
 
 // Audits many fragments by the index.
 pub fn fragments_numbers(
@@ -20,26 +23,15 @@ pub fn fragments_numbers(
     placements: &mut [u64],
     singles: &mut [u64],
     multi: &mut [u64],
-    keys: &[u64],
-    ranks: &[u64],
-    positions: &[u64],
-    identifiers: &[u8],
-    identifier_ends: &[usize],
-    bases: &[u8],
-    base_ends: &[usize],
-    marks: &[u8],
+    index: LentIndex<'_>,
+    catalogue: LentCatalogue<'_>,
     ordinals: &[u64],
     counts: &[u64],
-    roles: &[u8],
-    reads: &[u8],
-    read_ends: &[usize],
-    quality_marks: &[u8],
-    qualities: &[u8],
-    quality_ends: &[usize],
+    reads: LentReads<'_>,
 ) -> u64
-    ensures { AuditsListNumbers (lent_catalogue identifiers.now identifier_ends.now bases.now base_ends.now marks.now) (lent_index true keys.now ranks.now positions.now)
+    ensures { AuditsListNumbers (catalogue_in catalogue.entry) (lent_index true index.entry.keys.now index.entry.ranks.now index.entry.positions.now)
         (lent_counters placements.old singles.old multi.old)
-        (lent_fragments ordinals.now counts.now (lent_reads roles.now reads.now read_ends.now quality_marks.now qualities.now quality_ends.now))
+        (lent_fragments ordinals.now counts.now (reads_in reads.entry))
         state.old rows.old entries.old result (left_counters placements.new singles.new multi.new) state.new rows.new entries.new }
 {
     if !is_state(state) {
@@ -47,31 +39,8 @@ pub fn fragments_numbers(
     }
     let held = state_of(state);
     let audit = fragments(
-        rows,
-        entries,
-        placements,
-        singles,
-        multi,
-        keys,
-        ranks,
-        positions,
-        identifiers,
-        identifier_ends,
-        bases,
-        base_ends,
-        marks,
-        ordinals,
-        counts,
-        roles,
-        reads,
-        read_ends,
-        quality_marks,
-        qualities,
-        quality_ends,
-        held,
+        rows, entries, placements, singles, multi, index, catalogue, ordinals, counts, reads, held,
     );
-    let after = audit.state;
-    let told = audit.answer;
-    put_state(state, after);
-    number_of(told)
+    put_state(state, audit.state);
+    number_of(audit.answer)
 }

@@ -1,4 +1,6 @@
 -- What the calls on numbers return and write, from what the calls behind them answer.
+use Rattle.std.specs.Prelude.{Result, Ok, Err}
+use Rattle.promises.specs.declared.refusal.Refusal.{Refusal}
 use mathlib.Core.Path.{◌≡◌, refl, ap, ◌∙◌}
 use mathlib.Core.Bool.{Bool, true, false, ◌&&◌}
 use mathlib.Core.List.{List}
@@ -6,18 +8,16 @@ use Prim.Native.Nat.{ℕ, ◌<◌, ◌≤◌}
 use native.Mathlib.Omega.{arith}
 use lib.ListN.{length, get_or}
 use borrow.Author.Tests.{le-leb, lt-leb, eq-eqb, ne_eqb}
-use Rattle.promises.specs.Refusal.{Outcome, number_of, outcome}
+use Rattle.promises.specs.Refusal.{test_number, Outcome, number_of, outcome}
 use Rattle.promises.proofs.Refusing.{number_is}
 use Rattle.catalogue.specs.Catalogue.{Catalogue}
 use Rattle.buffers.specs.Placed.{placed}
 use Rattle.map_answers.specs.Answer.{Row}
 use Rattle.c_replies.specs.Replies.{Put}
 use Rattle.audit_ledger.specs.Booking.{Counters}
-use Rattle.audit_model.specs.declared.calls.CallAnswer.{CallAnswer}
-use Rattle.audit_model.specs.declared.calls.CallAnswer.TheVariants as calls
 use Rattle.audit_model.specs.declared.calls.Opening.{Opening}
-use Rattle.audit_model.specs.declared.calls.FragmentAnswer.{FragmentAnswer}
-use Rattle.audit_model.specs.declared.calls.FragmentAnswer.TheVariants as fragments
+use Rattle.audit_model.specs.declared.calls.FragmentRows.{FragmentRows}
+use Rattle.audit_model.specs.declared.calls.FragmentRows.TheVariants as fragments
 use Rattle.audit_model.specs.declared.calls.FragmentAudit.{FragmentAudit}
 use Rattle.audit_model.specs.declared.calls.Finish.{Finish}
 use Rattle.audit_model.specs.declared.settings.AuditInputMode.{AuditInputMode}
@@ -39,8 +39,10 @@ use Rattle.c_calls.specs.Calls.{coded_settings, CodedFragment, codes_right, frag
 told_number : {A : Type 0} (n : ℕ) (a : A) (o : Outcome A) → o ≡ outcome n a → number_of o ≡ n
 told_number n a o e = ap number_of e ∙ number_is n a
 
-pub accepted_number : (a : CallAnswer) (r : ℕ) → a ≡ calls.Accepted → r ≡ 0 → r ≡ number_of (call_outcome a)
-accepted_number a r e z = rw e z
+-- a test's number is that of its outcome
+pub call_number : (a : Result (Unit {0}) Refusal) → test_number a ≡ number_of (call_outcome a)
+call_number (Ok u) = refl
+call_number (Err e) = refl
 
 -- ---- a role and a mark
 
@@ -75,13 +77,13 @@ module _ (c : Catalogue) (lent : IndexLent) (k : Counters) (mode remap floor lim
 
   pub open_told : open_right mode remap ns ≡ true → (m : AuditInputMode) → m ≡ mode_of mode → (o : Opening) (k' : Counters)
       → Opens audit_seed audit_offset c lent (record { mode = m; remap = is_set remap; floor = floor; limit = limit }) k o k'
-      → (r : ℕ) → r ≡ number_of (call_outcome o.answer) → (ns' : List ℕ) → ns' ≡ state_numbers o.state → OpensNumbers c lent k mode remap floor limit ns r k' ns'
+      → (r : ℕ) → r ≡ test_number o.answer → (ns' : List ℕ) → ns' ≡ state_numbers o.state → OpensNumbers c lent k mode remap floor limit ns r k' ns'
   unfolding OpensNumbers
   open_told t m e o k' a r n ns' w =
       let b : Opens audit_seed audit_offset c lent (coded_settings mode remap floor limit) k o k' = rw e at a in
       rw t
       (record {
-        number = n ∙ told_number _ _ _ b.answer;
+        number = n ∙ call_number o.answer ∙ told_number _ _ _ b.answer;
         state = w ∙ ap (λ (h : Held). state_numbers h.state) b.held;
         counters = ap (λ (h : Held). h.counters) b.held;
       })
@@ -89,17 +91,17 @@ module _ (c : Catalogue) (lent : IndexLent) (k : Counters) (mode remap floor lim
 -- ---- fragment
 
 -- the first number of the rows is the refusal, and there is room for two rows
-first_number : (x : FragmentAnswer) (b : List ℕ) → get_or (placed 0 (outcome_rows 2 (fragment_outcome x)) b) 0 0 ≡ number_of (fragment_outcome x)
-first_number (fragments.Refused n) b = refl
-first_number (fragments.Single m) b = refl
-first_number (fragments.Paired m) b = refl
+first_number : (x : Result FragmentRows Refusal) (b : List ℕ) → get_or (placed 0 (outcome_rows 2 (fragment_outcome x)) b) 0 0 ≡ number_of (fragment_outcome x)
+first_number (Err n) b = refl
+first_number (Ok (fragments.Single m)) b = refl
+first_number (Ok (fragments.Paired m)) b = refl
 
-pub two_rows : (x : FragmentAnswer) → length (outcome_rows 2 (fragment_outcome x)) ≤ 16
-two_rows (fragments.Refused n) = omega arith
-two_rows (fragments.Single m) = omega arith
-two_rows (fragments.Paired m) = omega arith
+pub two_rows : (x : Result FragmentRows Refusal) → length (outcome_rows 2 (fragment_outcome x)) ≤ 16
+two_rows (Err n) = omega arith
+two_rows (Ok (fragments.Single m)) = omega arith
+two_rows (Ok (fragments.Paired m)) = omega arith
 
-number_told : (x : FragmentAnswer) (n : ℕ) (rs : List Row) (b b' : List ℕ) (r : ℕ) → fragment_outcome x ≡ outcome n rs → b' ≡ placed 0 (outcome_rows 2 (fragment_outcome x)) b → r ≡ get_or b' 0 0 → r ≡ n
+number_told : (x : Result FragmentRows Refusal) (n : ℕ) (rs : List Row) (b b' : List ℕ) (r : ℕ) → fragment_outcome x ≡ outcome n rs → b' ≡ placed 0 (outcome_rows 2 (fragment_outcome x)) b → r ≡ get_or b' 0 0 → r ≡ n
 number_told x n rs b b' r e v h = h ∙ ap (λ l. get_or l 0 0) v ∙ first_number x b ∙ told_number n rs (fragment_outcome x) e
 
 rows_told : (x y : Outcome (List Row)) (b b' : List ℕ) → b' ≡ placed 0 (outcome_rows 2 x) b → x ≡ y → b' ≡ placed 0 (outcome_rows 2 y) b
@@ -188,8 +190,8 @@ module _ (audited c : Catalogue) (k : Counters) (ns rows : List ℕ) where
   unfolding AppliesNumbers
   apply_wrong t = rw t (record { number = refl; left = refl })
 
-  pub apply_told : is_sheet ns ≡ true → (s : Sheet) → s ≡ sheet_in ns → (a : CallAnswer) (rows' : List ℕ) → Applies audited c s k rows a rows' → (r : ℕ) → r ≡ number_of (call_outcome a) → AppliesNumbers audited c k ns rows r rows'
+  pub apply_told : is_sheet ns ≡ true → (s : Sheet) → s ≡ sheet_in ns → (a : Result (Unit {0}) Refusal) (rows' : List ℕ) → Applies audited c s k rows a rows' → (r : ℕ) → r ≡ test_number a → AppliesNumbers audited c k ns rows r rows'
   unfolding AppliesNumbers
   apply_told t s es a rows' g r n =
       let b : Applies audited c (sheet_in ns) k rows a rows' = rw es at g in
-      rw t (record { number = n ∙ told_number _ _ _ b.answer; left = b.left })
+      rw t (record { number = n ∙ call_number a ∙ told_number _ _ _ b.answer; left = b.left })

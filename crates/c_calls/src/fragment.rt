@@ -1,5 +1,5 @@
 // A fragment audited, with the state as numbers.
-ghost use Rattle.catalogue.specs.Catalogue.{lent_catalogue};
+ghost use Rattle.catalogue.specs.Catalogue.{catalogue_in};
 ghost use Rattle.audit_ledger.specs.Booking.{lent_counters, left_counters};
 ghost use Rattle.audit_model.specs.Calls.{lent_index};
 ghost use Rattle.c_calls.specs.Calls.{lent_coded, coded_fragment, AuditsNumbers};
@@ -10,6 +10,8 @@ use audit_fragment::audit_fragment;
 use audit_model::settings::{AUDIT_OFFSET, AUDIT_SEED};
 use batch_fragment_rows::write_fragment;
 use c_state::{is_state, put_state, state_of};
+use catalogue::lent::LentCatalogue;
+use index_columns::LentIndex;
 
 // Audits a fragment by the index, or plain.
 pub fn fragment_numbers(
@@ -19,14 +21,8 @@ pub fn fragment_numbers(
     placements: &mut [u64],
     singles: &mut [u64],
     multi: &mut [u64],
-    keys: &[u64],
-    ranks: &[u64],
-    positions: &[u64],
-    identifiers: &[u8],
-    identifier_ends: &[usize],
-    bases: &[u8],
-    base_ends: &[usize],
-    marks: &[u8],
+    index: LentIndex<'_>,
+    catalogue: LentCatalogue<'_>,
     first: &[u8],
     first_qualities: &[u8],
     second: &[u8],
@@ -39,7 +35,7 @@ pub fn fragment_numbers(
     count: usize,
     indexed: bool,
 ) -> u64
-    ensures { AuditsNumbers (lent_catalogue identifiers.now identifier_ends.now bases.now base_ends.now marks.now) (lent_index indexed keys.now ranks.now positions.now)
+    ensures { AuditsNumbers (catalogue_in catalogue.entry) (lent_index indexed index.entry.keys.now index.entry.ranks.now index.entry.positions.now)
         (lent_counters placements.old singles.old multi.old)
         (coded_fragment ordinal count (lent_coded first_role first_mark first.now first_qualities.now) (lent_coded second_role second_mark second.now second_qualities.now))
         state.old answer.old entries.old result (left_counters placements.new singles.new multi.new) state.new answer.new entries.new }
@@ -62,14 +58,8 @@ pub fn fragment_numbers(
         placements,
         singles,
         multi,
-        keys,
-        ranks,
-        positions,
-        identifiers,
-        identifier_ends,
-        bases,
-        base_ends,
-        marks,
+        index,
+        catalogue,
         first,
         first_qualities,
         second,
@@ -85,9 +75,7 @@ pub fn fragment_numbers(
         AUDIT_OFFSET,
         held,
     );
-    let after = audit.state;
-    let told = audit.answer;
-    put_state(state, after);
-    write_fragment(answer, 0, 2, told);
+    put_state(state, audit.state);
+    write_fragment(answer, 0, 2, audit.answer);
     answer[0]
 }

@@ -1,14 +1,16 @@
 // An audit opened, and its state written as numbers.
-ghost use Rattle.catalogue.specs.Catalogue.{lent_catalogue};
+ghost use Rattle.catalogue.specs.Catalogue.{catalogue_in};
 ghost use Rattle.audit_ledger.specs.Booking.{lent_counters, left_counters};
 ghost use Rattle.audit_model.specs.Calls.{lent_index};
 ghost use Rattle.c_calls.specs.Calls.{OpensNumbers};
 
-use crate::number_of;
 use audit_codes::mode_of;
 use audit_model::settings::{AUDIT_OFFSET, AUDIT_SEED, Settings};
 use audit_open::open_audit;
 use c_state::{STATE_LENGTH, put_state};
+use catalogue::lent::LentCatalogue;
+use index_columns::LentIndex;
+use promises::refusal::number_of;
 
 // Opens an audit by the index, or plain.
 pub fn open_numbers(
@@ -16,21 +18,15 @@ pub fn open_numbers(
     placements: &mut [u64],
     singles: &mut [u64],
     multi: &mut [u64],
-    keys: &[u64],
-    ranks: &[u64],
-    positions: &[u64],
-    identifiers: &[u8],
-    identifier_ends: &[usize],
-    bases: &[u8],
-    base_ends: &[usize],
-    marks: &[u8],
+    index: LentIndex<'_>,
+    catalogue: LentCatalogue<'_>,
     indexed: bool,
     mode: u8,
     remap: u8,
     floor: u8,
     limit: u64,
 ) -> u64
-    ensures { OpensNumbers (lent_catalogue identifiers.now identifier_ends.now bases.now base_ends.now marks.now) (lent_index indexed keys.now ranks.now positions.now)
+    ensures { OpensNumbers (catalogue_in catalogue.entry) (lent_index indexed index.entry.keys.now index.entry.ranks.now index.entry.positions.now)
         (lent_counters placements.old singles.old multi.old) mode remap floor limit state.old result (left_counters placements.new singles.new multi.new) state.new }
 {
     if state.len() != STATE_LENGTH {
@@ -52,21 +48,13 @@ pub fn open_numbers(
         placements,
         singles,
         multi,
-        keys,
-        ranks,
-        positions,
-        identifiers,
-        identifier_ends,
-        bases,
-        base_ends,
-        marks,
+        index,
+        catalogue,
         indexed,
         AUDIT_SEED,
         AUDIT_OFFSET,
         settings,
     );
-    let held = opened.state;
-    let answer = opened.answer;
-    put_state(state, held);
-    number_of(answer)
+    put_state(state, opened.state);
+    number_of(opened.answer)
 }

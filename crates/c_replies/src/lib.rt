@@ -9,23 +9,24 @@ ghost use Rattle.batch_rows.specs.Rows.{row_numbers};
 ghost use Rattle.c_replies.specs.Replies.{plan_numbers, build_numbers, Put};
 
 use batch_rows::write_row;
-use index_calls::Built;
-use index_plan::IndexPlan;
-use map_answers::answer::MapAnswer;
+use index_plan::Counts;
+use map_answers::answer::Mapping;
+use promises::refusal::Refusal;
 
 // Writes the answer of a plan, and returns its refusal.
-pub fn put_plan(answer: &mut [u64], planned: IndexPlan) -> u64
+pub fn put_plan(answer: &mut [u64], planned: Result<Counts, Refusal>) -> u64
     requires { 3 ≤ length answer.old }
     ensures { Put plan_numbers (plan_outcome planned) result answer.old answer.new }
 {
     match planned {
-        IndexPlan::Refused(n) => {
-            answer[0] = n;
+        Err(refusal) => {
+            let number = refusal.number();
+            answer[0] = number;
             answer[1] = 0;
             answer[2] = 0;
-            n
+            number
         }
-        IndexPlan::Planned(counts) => {
+        Ok(counts) => {
             answer[0] = 0;
             answer[1] = counts.targets as u64;
             answer[2] = counts.postings as u64;
@@ -35,17 +36,18 @@ pub fn put_plan(answer: &mut [u64], planned: IndexPlan) -> u64
 }
 
 // Writes the answer of a build, and returns its refusal.
-pub fn put_built(answer: &mut [u64], built: Built) -> u64
+pub fn put_built(answer: &mut [u64], built: Result<usize, Refusal>) -> u64
     requires { 2 ≤ length answer.old }
     ensures { Put build_numbers (built_outcome built) result answer.old answer.new }
 {
     match built {
-        Built::Refused(refusal) => {
+        Err(refusal) => {
+            let refusal = refusal.number();
             answer[0] = refusal;
             answer[1] = 0;
             refusal
         }
-        Built::Built(n) => {
+        Ok(n) => {
             answer[0] = 0;
             answer[1] = n as u64;
             0
@@ -54,7 +56,7 @@ pub fn put_built(answer: &mut [u64], built: Built) -> u64
 }
 
 // Writes the answer of `map`, and returns its refusal.
-pub fn put_answer(answer: &mut [u64], mapped: MapAnswer) -> u64
+pub fn put_answer(answer: &mut [u64], mapped: Result<Mapping, Refusal>) -> u64
     requires { 8 ≤ length answer.old }
     ensures { Put row_numbers (answer_of mapped) result answer.old answer.new }
 {

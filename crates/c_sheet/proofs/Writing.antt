@@ -1,4 +1,6 @@
 -- The numbers of a sheet written part by part, and the parts of a sheet read.
+use Rattle.std.specs.Prelude.{Ok, Err, Option, Some, None}
+use Rattle.audit_model.specs.declared.sheet.PlacementTotals.{PlacementTotals}
 use mathlib.Core.Path.{◌≡◌, refl, ap, ap₂, ◌∙◌}
 use mathlib.Core.Bool.{Bool}
 use mathlib.Core.List.{List, [], ◌∷◌, ◌++◌}
@@ -6,14 +8,13 @@ use Prim.Native.Nat.{ℕ, zero, suc, ◌+◌, ◌≤◌}
 use native.Mathlib.Omega.{arith}
 use lib.ListN.{length, get_or, set, replicate, length-append}
 use Rattle.lists.specs.Cut.{window}
+use Rattle.promises.specs.declared.refusal.Refusal.{Refusal}
+use Rattle.promises.specs.Refusal.{refusal_number}
 use Rattle.buffers.specs.Placed.{placed}
 use Rattle.buffers.proofs.Storing.{placed_one, placed-placed}
 use Rattle.c_replies.specs.Replies.{Put}
 use Rattle.audit_model.specs.declared.settings.AuditInputMode.{AuditInputMode}
-use Rattle.audit_model.specs.declared.calls.CallAnswer.TheVariants as calls
 use Rattle.audit_model.specs.declared.calls.Finish.{Finish}
-use Rattle.audit_model.specs.declared.sheet.Availability.{Availability}
-use Rattle.audit_model.specs.declared.sheet.Availability.TheVariants as totals
 use Rattle.audit_model.specs.declared.sheet.Status.{Status}
 use Rattle.audit_model.specs.declared.sheet.Status.TheVariants as statuses
 use Rattle.audit_model.specs.declared.sheet.Shown.{Shown}
@@ -25,9 +26,9 @@ use Rattle.c_state.proofs.Writing.{put_two}
 use Rattle.audit_model.specs.Calls.{finish_outcome}
 use Rattle.c_sheet.specs.Sheet.{sheet_numbers, finish_numbers, sheet_in}
 
-length_totals : (a : Availability) → length (total_numbers a) ≡ 3
-length_totals totals.Unavailable = refl
-length_totals (totals.Available t) = refl
+length_totals : (a : Option PlacementTotals) → length (total_numbers a) ≡ 3
+length_totals None = refl
+length_totals (Some t) = refl
 
 length-shown : (x : Shown) → length (shown_numbers x) ≡ 4
 length-shown x = ap suc (length_totals x.totals)
@@ -54,10 +55,10 @@ put_behind : (n : ℕ) (xs b b₁ : List ℕ) → 1 + length xs ≤ length b →
 put_behind n xs b b₁ h e = e ∙ ap (placed 1 xs) (placed_one 0 n b (omega arith)) ∙ placed-placed 0 (n ∷ []) b xs (omega arith)
 
 module _ (f : Finish) (b : List ℕ) (h : 25 ≤ length b) (b₁ : List ℕ) where
-  pub put_refused : (n v r : ℕ) → f.answer ≡ calls.Refused n → v ≡ n → r ≡ n → b₁ ≡ placed 1 (replicate {A = ℕ} 24 0) (set b 0 v) → Put finish_numbers (finish_outcome f) r b b₁
+  pub put_refused : (n : Refusal) (v r : ℕ) → f.answer ≡ Err n → v ≡ refusal_number n → r ≡ refusal_number n → b₁ ≡ placed 1 (replicate {A = ℕ} 24 0) (set b 0 v) → Put finish_numbers (finish_outcome f) r b b₁
   put_refused n v r g e k w = rw (g, k) (record { number = refl; written = put_behind v (replicate {A = ℕ} 24 0) b b₁ h w ∙ ap (λ m. placed 0 (m ∷ replicate {A = ℕ} 24 0) b) e })
 
-  pub put_accepted : (v r : ℕ) → length (sheet_numbers f.sheet) ≡ 24 → f.answer ≡ calls.Accepted → v ≡ 0 → r ≡ 0 → b₁ ≡ placed 1 (sheet_numbers f.sheet) (set b 0 v) → Put finish_numbers (finish_outcome f) r b b₁
+  pub put_accepted : (v r : ℕ) → length (sheet_numbers f.sheet) ≡ 24 → f.answer ≡ Ok tt → v ≡ 0 → r ≡ 0 → b₁ ≡ placed 1 (sheet_numbers f.sheet) (set b 0 v) → Put finish_numbers (finish_outcome f) r b b₁
   put_accepted v r l g e k w =
       rw (g, k) (record { number = refl; written = put_behind v (sheet_numbers f.sheet) b b₁ (omega arith) w ∙ ap (λ m. placed 0 (m ∷ sheet_numbers f.sheet) b) e })
 

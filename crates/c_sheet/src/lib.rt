@@ -8,7 +8,7 @@ ghost use Rattle.audit_model.specs.Calls.{finish_outcome};
 ghost use Rattle.c_sheet.specs.Sheet.{finish_length, finish_numbers, sheet_numbers, sheet_in, status_fits, is_sheet};
 
 use audit_codes::{flag_number, mode_number, mode_of, status_of};
-use audit_model::calls::{CallAnswer, Finish};
+use audit_model::calls::Finish;
 use audit_model::sheet::{PlacementTotals, Sheet};
 use audit_sheet::showing::shown_with;
 use audit_unitigs::write_shown;
@@ -34,18 +34,17 @@ pub fn put_finish(answer: &mut [u64], finish: Finish) -> u64
     requires { finish_length ≤ length answer.old }
     ensures { Put finish_numbers (finish_outcome finish) result answer.old answer.new }
 {
-    let told = finish.answer;
-    let sheet = finish.sheet;
-    match told {
-        CallAnswer::Refused(n) => {
+    match finish.answer {
+        Err(refusal) => {
+            let number = refusal.number();
             let zeros = [0u64; 24];
-            answer[0] = n;
+            answer[0] = number;
             copy_numbers(answer, 1, &zeros);
-            n
+            number
         }
-        CallAnswer::Accepted => {
+        Ok(()) => {
             answer[0] = 0;
-            put_sheet(answer, 1, sheet);
+            put_sheet(answer, 1, finish.sheet);
             0
         }
     }

@@ -1,4 +1,5 @@
 -- The numbers of a state stand for it and for no other: a state is read back as it was written, and numbers are written as they were read.
+use Rattle.std.specs.Prelude.{Option, Some, None}
 use mathlib.Core.Path.{◌≡◌, refl, sym, ap, ◌∙◌}
 use mathlib.Core.Bool.{Bool, true, false}
 use mathlib.Core.Logic.{◌⊎◌, inl, inr}
@@ -12,8 +13,6 @@ use Rattle.lists.specs.Cut.{window}
 use Rattle.audit_ledger.specs.declared.Ledger.{Ledger}
 use Rattle.audit_model.specs.declared.settings.AuditInputMode.{AuditInputMode}
 use Rattle.audit_model.specs.declared.settings.AuditInputMode.TheVariants as modes
-use Rattle.audit_model.specs.declared.settings.LastOrdinal.{LastOrdinal}
-use Rattle.audit_model.specs.declared.settings.LastOrdinal.TheVariants as ordinals
 use Rattle.audit_model.specs.declared.settings.AuditState.{AuditState}
 use Rattle.audit_codes.specs.Codes.{mode_of, is_set, flag_number, mode_number}
 use Rattle.c_state.specs.Layout.{last_numbers, ledger_numbers, state_numbers, last_of, state_in, is_state}
@@ -94,25 +93,25 @@ mark-small false = omega arith
 
 -- the numbers of the last ordinal, with a list behind them
 module _ (xs : List ℕ) where
-  last_again : (o : LastOrdinal) → last_of (get_or (last_numbers o ++ xs) 0 0) (get_or (last_numbers o ++ xs) 1 0) ≡ o
-  last_again ordinals.Absent = refl
-  last_again (ordinals.Accepted n) = refl
+  last_again : (o : Option ℕ) → last_of (get_or (last_numbers o ++ xs) 0 0) (get_or (last_numbers o ++ xs) 1 0) ≡ o
+  last_again None = refl
+  last_again (Some n) = refl
 
-  last_small : (o : LastOrdinal) → get_or (last_numbers o ++ xs) 0 0 ≤ 1
-  last_small ordinals.Absent = omega arith
-  last_small (ordinals.Accepted n) = omega arith
+  last_small : (o : Option ℕ) → get_or (last_numbers o ++ xs) 0 0 ≤ 1
+  last_small None = omega arith
+  last_small (Some n) = omega arith
 
-  last_kept : (o : LastOrdinal) → (get_or (last_numbers o ++ xs) 0 0 ≡ 1) ⊎ (get_or (last_numbers o ++ xs) 1 0 ≡ 0)
-  last_kept ordinals.Absent = inr refl
-  last_kept (ordinals.Accepted n) = inl refl
+  last_kept : (o : Option ℕ) → (get_or (last_numbers o ++ xs) 0 0 ≡ 1) ⊎ (get_or (last_numbers o ++ xs) 1 0 ≡ 0)
+  last_kept None = inr refl
+  last_kept (Some n) = inl refl
 
-  past_last : (o : LastOrdinal) (k : ℕ) → drop (suc (suc k)) (last_numbers o ++ xs) ≡ drop k xs
-  past_last ordinals.Absent k = refl
-  past_last (ordinals.Accepted n) k = refl
+  past_last : (o : Option ℕ) (k : ℕ) → drop (suc (suc k)) (last_numbers o ++ xs) ≡ drop k xs
+  past_last None k = refl
+  past_last (Some n) k = refl
 
-  at_past : (o : LastOrdinal) (k : ℕ) → get_or (last_numbers o ++ xs) (suc (suc k)) 0 ≡ get_or xs k 0
-  at_past ordinals.Absent k = refl
-  at_past (ordinals.Accepted n) k = refl
+  at_past : (o : Option ℕ) (k : ℕ) → get_or (last_numbers o ++ xs) (suc (suc k)) 0 ≡ get_or xs k 0
+  at_past None k = refl
+  at_past (Some n) k = refl
 
 module _ (l : Ledger) (lt : length l.table ≡ 18) (lr : length l.reads ≡ 3) where
   joined : ledger_numbers l ≡ l.table ++ (l.reads ++ (l.placements ∷ l.singles ∷ l.multi ∷ flag_number l.indeterminate ∷ []))
@@ -133,7 +132,7 @@ module _ (l : Ledger) (lt : length l.table ≡ 18) (lr : length l.reads ≡ 3) w
       ap (λ i. get_or (ledger_numbers l) i 0) m ∙ get_or-append-add (l.table ++ l.reads) (l.placements ∷ l.singles ∷ l.multi ∷ flag_number l.indeterminate ∷ []) k 0
 
 -- a state of given parts
-same_state : (s : AuditState) (mode : AuditInputMode) (remap : Bool) (floor limit : ℕ) (last : LastOrdinal) (table reads : List ℕ) (p g m : ℕ) (i : Bool)
+same_state : (s : AuditState) (mode : AuditInputMode) (remap : Bool) (floor limit : ℕ) (last : Option ℕ) (table reads : List ℕ) (p g m : ℕ) (i : Bool)
     → mode ≡ s.settings.mode → remap ≡ s.settings.remap → floor ≡ s.settings.floor → limit ≡ s.settings.limit → last ≡ s.last
     → table ≡ s.ledger.table → reads ≡ s.ledger.reads → p ≡ s.ledger.placements → g ≡ s.ledger.singles → m ≡ s.ledger.multi → i ≡ s.ledger.indeterminate
     → ◌≡◌ {A = AuditState} (record {

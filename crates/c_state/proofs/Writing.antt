@@ -1,4 +1,5 @@
 -- The numbers of a state written part by part, and the parts of a state read.
+use Rattle.std.specs.Prelude.{Option, Some, None}
 use mathlib.Core.Path.{◌≡◌, refl, sym, ap, ap₂, ◌∙◌}
 use mathlib.Core.Bool.{Bool}
 use mathlib.Core.List.{List, [], ◌∷◌, ◌++◌, append_assoc, append-nil}
@@ -6,16 +7,11 @@ use Prim.Native.Nat.{ℕ, zero, suc, ◌+◌, ◌≤◌}
 use native.Mathlib.Omega.{arith}
 use lib.ListN.{length, get_or, set, length-append, drop_of_length-le}
 use lib.Seq.{drop-cons}
-use types.Run.{OneOf, miss}
-use denote.Enum.Declared.{tag_of}
 use Rattle.lists.specs.Cut.{window}
 use Rattle.lists.proofs.Cut.{length-window}
 use Rattle.buffers.specs.Placed.{placed}
 use Rattle.buffers.proofs.Storing.{placed_next, placed_one, placed-placed}
 use Rattle.audit_ledger.specs.declared.Ledger.{Ledger}
-use Rattle.audit_model.specs.declared.settings.LastOrdinal.{LastOrdinal}
-use Rattle.audit_model.specs.declared.settings.LastOrdinal.TheVariants as ordinals
-use Rattle.audit_model.specs.contracts.settings.LastOrdinal.{the_type}
 use Rattle.audit_model.specs.declared.settings.AuditState.{AuditState}
 use Rattle.audit_codes.specs.Codes.{is_set, flag_number, mode_number}
 use Rattle.c_state.specs.Layout.{last_numbers, ledger_numbers, state_numbers, last_of, state_in}
@@ -34,24 +30,20 @@ put_eighteen ns b found at n e h l w = w ∙ ap (λ k. placed 0 (window ns at k)
 pub put_two : (at : ℕ) (b : List ℕ) (u v : ℕ) → at + 2 ≤ length b → set (set b at u) (at + 1) v ≡ placed at (u ∷ v ∷ []) b
 put_two at b u v h = placed_next at (u ∷ []) b _ v (at + 1) (omega arith) (placed_one at u b (omega arith)) (omega arith)
 
-no_last : (o : LastOrdinal) → OneOf (0 ∷ []) (tag_of the_type o) → 0 ∷ 0 ∷ [] ≡ last_numbers o
-no_last ordinals.Absent k = refl
-no_last (ordinals.Accepted n) k = absurd (miss (0 ∷ []) 1 tt k)
+module _ (at : ℕ) (b : List ℕ) (h : at + 2 ≤ length b) (o : Option ℕ) where
+  pub put_absent : (u v : ℕ) → o ≡ None → u ≡ 0 → v ≡ 0 → set (set b at u) (at + 1) v ≡ placed at (last_numbers o) b
+  put_absent u v g e f = put_two at b u v h ∙ ap (λ l. placed at l b) (rw (g, e, f))
 
-module _ (at : ℕ) (b : List ℕ) (h : at + 2 ≤ length b) (o : LastOrdinal) where
-  pub put_absent : OneOf (0 ∷ []) (tag_of the_type o) → (u v : ℕ) → u ≡ 0 → v ≡ 0 → set (set b at u) (at + 1) v ≡ placed at (last_numbers o) b
-  put_absent k u v e f = put_two at b u v h ∙ ap (λ l. placed at l b) (rw (e, f) (no_last o k))
-
-  pub put_accepted : (n u v : ℕ) → o ≡ ordinals.Accepted n → u ≡ 1 → v ≡ n → set (set b at u) (at + 1) v ≡ placed at (last_numbers o) b
+  pub put_accepted : (n u v : ℕ) → o ≡ Some n → u ≡ 1 → v ≡ n → set (set b at u) (at + 1) v ≡ placed at (last_numbers o) b
   put_accepted n u v g e f = put_two at b u v h ∙ ap (λ l. placed at l b) (rw (g, e, f))
 
-pub accepted_last : (f n : ℕ) → (f ≡ 0 → ⊥) → ordinals.Accepted n ≡ last_of f n
+pub accepted_last : (f n : ℕ) → (f ≡ 0 → ⊥) → Some n ≡ last_of f n
 accepted_last zero n h = absurd (h refl)
 accepted_last (suc f) n h = refl
 
-pub length_last : (o : LastOrdinal) → length (last_numbers o) ≡ 2
-length_last ordinals.Absent = refl
-length_last (ordinals.Accepted n) = refl
+pub length_last : (o : Option ℕ) → length (last_numbers o) ≡ 2
+length_last None = refl
+length_last (Some n) = refl
 
 -- ---- the ledger
 

@@ -1,10 +1,7 @@
 -- The state of an audit as numbers (REFERENCE.md, "Exports").
-use Rattle.std.specs.Prelude.{Bool, true, false, ◌&&◌, ◌||◌, List, [], ◌∷◌, ◌++◌, ℕ, zero, suc, length, get_or, eqb, leb}
+use Rattle.std.specs.Prelude.{Bool, ◌&&◌, ◌||◌, List, [], ◌∷◌, ◌++◌, ℕ, zero, suc, length, get_or, eqb, leb, Option, Some, None}
 use Rattle.lists.specs.Cut.{window}
 use Rattle.audit_ledger.specs.declared.Ledger.{Ledger}
-use Rattle.audit_model.specs.declared.settings.AuditInputMode.TheVariants as modes
-use Rattle.audit_model.specs.declared.settings.LastOrdinal.{LastOrdinal}
-use Rattle.audit_model.specs.declared.settings.LastOrdinal.TheVariants as ordinals
 use Rattle.audit_model.specs.declared.settings.AuditState.{AuditState}
 use Rattle.audit_codes.specs.Codes.{mode_of, is_mark, is_set, flag_number, mode_number}
 
@@ -18,9 +15,9 @@ state_length = 32
 -- ---- written
 
 -- whether a fragment was accepted, and its ordinal
-abbrev pub last_numbers : LastOrdinal → List ℕ
-last_numbers ordinals.Absent = 0 ∷ 0 ∷ []
-last_numbers (ordinals.Accepted n) = 1 ∷ n ∷ []
+abbrev pub last_numbers : Option ℕ → List ℕ
+last_numbers None = 0 ∷ 0 ∷ []
+last_numbers (Some n) = 1 ∷ n ∷ []
 
 -- counts by role and state, reads by role, three totals, whether a read was indeterminate
 abbrev pub ledger_numbers : Ledger → List ℕ
@@ -34,9 +31,9 @@ state_numbers s =
 
 -- ---- read back
 
-abbrev pub last_of : ℕ → ℕ → LastOrdinal
-last_of zero n = ordinals.Absent
-last_of (suc m) n = ordinals.Accepted n
+abbrev pub last_of : ℕ → ℕ → Option ℕ
+last_of zero n = None
+last_of (suc m) n = Some n
 
 abbrev pub state_in : List ℕ → AuditState
 state_in ns =

@@ -8,7 +8,7 @@ ghost use Rattle.c_state.specs.Layout.{state_length, last_numbers, ledger_number
 
 use audit_codes::{flag_number, mode_number, mode_of};
 use audit_ledger::Ledger;
-use audit_model::settings::{AuditState, LastOrdinal, Settings};
+use audit_model::settings::{AuditState, Settings};
 use buffers::copy_numbers;
 
 pub const STATE_LENGTH: usize = 32;
@@ -27,16 +27,16 @@ pub fn eighteen(numbers: &[u64], at: usize) -> [u64; 18]
 
 // ---- written
 
-fn put_last(numbers: &mut [u64], at: usize, last: LastOrdinal)
+fn put_last(numbers: &mut [u64], at: usize, last: Option<u64>)
     requires { at + 2 ≤ length numbers.old }
     ensures { numbers.new ≡ placed at (last_numbers last) numbers.old }
 {
     match last {
-        LastOrdinal::Absent => {
+        None => {
             numbers[at] = 0;
             numbers[at + 1] = 0;
         }
-        LastOrdinal::Accepted(n) => {
+        Some(n) => {
             numbers[at] = 1;
             numbers[at + 1] = n;
         }
@@ -107,13 +107,13 @@ pub fn is_state(numbers: &[u64]) -> bool
     numbers[31] <= 1
 }
 
-fn last_of(flag: u64, ordinal: u64) -> LastOrdinal
+fn last_of(flag: u64, ordinal: u64) -> Option<u64>
     ensures { result ≡ last_of flag ordinal }
 {
     if flag == 0 {
-        return LastOrdinal::Absent;
+        return None;
     }
-    LastOrdinal::Accepted(ordinal)
+    Some(ordinal)
 }
 
 fn settings_of(numbers: &[u64]) -> Settings

@@ -6,7 +6,7 @@ use Prim.Native.Nat.{ℕ, ◌+◌, ◌<◌, ◌≤◌}
 use native.Mathlib.Omega.{arith}
 use native.Mathlib.Numerals.{add-one}
 use lib.ListN.{length, get_or, take, drop, set, length-set, length-append}
-use lib.Seq.{take-suc, take-suc-set, take_all, drop-set-lt, drop-drop, get_or-drop}
+use lib.Seq.{take-suc, take-suc-set, drop-set-lt, drop-drop, get_or-drop}
 use lib.Dec.{ltb}
 use borrow.Author.Tests.{ltb-true}
 use Rattle.lists.specs.Filter.{filter, cons_if, every}
@@ -22,9 +22,6 @@ pub record Filtering (p : ℕ → Bool) (whole buffer : List ℕ) (kept i : ℕ)
   pub count : kept ≡ length (filter p (take i whole))
   pub front : take kept buffer ≡ filter p (take i whole)
   pub rest : drop i buffer ≡ drop i whole
-
-pub filtering_start : (p : ℕ → Bool) (whole : List ℕ) → Filtering p whole whole 0 0
-filtering_start p whole = record { inside = omega arith; long = refl; fewer = omega arith; count = refl; front = refl; rest = refl }
 
 module _ (p : ℕ → Bool) (whole buffer : List ℕ) (kept i : ℕ) (s : Filtering p whole buffer kept i) where
   -- the next element is still in its place
@@ -72,6 +69,3 @@ module _ (p : ℕ → Bool) (whole buffer : List ℕ) (kept i : ℕ) (s : Filter
   -- it is below what all are below
   pub element_below : (n : ℕ) → every (λ x. ltb x n) whole ≡ true → i < length whole → get_or buffer i 0 < n
   element_below n b h = ltb-true (get_or buffer i 0) n (ap (λ x. ltb x n) element ∙ every_at (λ x. ltb x n) 0 whole b i h)
-
-  pub filtering_end : length whole ≤ i → (kept ≡ length (filter p whole)) × (take kept buffer ≡ filter p whole)
-  filtering_end h = let w = take_all i whole h in (s.count ∙ ap (λ l. length (filter p l)) w, s.front ∙ ap (filter p) w)

@@ -6,6 +6,7 @@ use Rattle.lists.specs.Sort.{sort}
 use Rattle.lists.specs.Cut.{cut, ends_within}
 use Rattle.bases.specs.Read.{capitals}
 use Rattle.promises.specs.Refusal.{unless, ◌or_else◌}
+use Rattle.catalogue.specs.declared.lent.LentCatalogue.{LentCatalogue}
 use Rattle.identifiers.specs.Name.{name_before, distinct_names}
 
 -- a catalogue as it is lent: identifier bytes with ends, base bytes with ends, a topology mark for each target
@@ -19,6 +20,10 @@ pub record Catalogue : Type 0 where
 -- the catalogue that the slices of a call hold
 abbrev pub lent_catalogue : List ℕ → List ℕ → List ℕ → List ℕ → List ℕ → Catalogue
 lent_catalogue is ies bs bes ms = record { identifiers = is; identifier_ends = ies; bases = bs; base_ends = bes; marks = ms }
+
+-- the catalogue that a lent one holds
+abbrev pub catalogue_in : LentCatalogue → Catalogue
+catalogue_in c = lent_catalogue c.identifiers.now c.identifier_ends.now c.bases.now c.base_ends.now c.marks.now
 
 -- a target, with its place in the order of supply
 pub record Target : Type 0 where

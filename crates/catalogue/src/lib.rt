@@ -2,4 +2,5 @@
 #![tactic(auto)]
 
 pub mod bounds;
+pub mod lent;
 pub mod ranks;

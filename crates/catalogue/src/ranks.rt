@@ -1,19 +1,14 @@
 // Ranks: the places of the mapped targets in the order of their names, or the catalogue's refusal.
 ghost use Rattle.std.specs.Prelude.{◌≡◌, true, ◌<◌, ◌≤◌, length, ltb};
 ghost use Rattle.lists.specs.Filter.{every};
-ghost use Rattle.catalogue.specs.Catalogue.{lent_catalogue, max_targets};
+ghost use Rattle.catalogue.specs.Catalogue.{catalogue_in, max_targets};
 ghost use Rattle.identifiers.specs.Lent.{lent_cut};
 ghost use Rattle.catalogue.specs.Ranking.{PlaceKept, Kept, MarkedNames, NamesRanked, RankedAs};
 
 use crate::bounds::{all_proper, in_bounds};
+use crate::lent::LentCatalogue;
 use identifier_sort::order_names;
-
-// A refusal, 2 to 4 for a catalogue and 1 for a seed length, or the number of mapped targets.
-#[derive(Clone, Copy)]
-pub enum Ranking {
-    Refused(u64),
-    Ranked(usize),
-}
+use promises::refusal::Refusal;
 
 // Puts a place behind those kept if it is linear, and answers how many are kept then.
 fn keep_place(order: &mut [usize], kept: usize, place: usize, linear: bool) -> usize
@@ -33,44 +28,45 @@ fn keep_linear(order: &mut [usize], marks: &[u8]) -> usize
     ensures { Kept marks.now order.old result order.new }
 {
     let mut kept = 0;
-    let mut i = 0;
-    while i < order.len() {
+    for i in 0..order.len() {
         let place = order[i];
         kept = keep_place(order, kept, place, marks[place] == 0);
-        i += 1;
     }
     kept
 }
 
 // Puts the linear places into the order of their names, unless two names are equal.
-fn rank_names(order: &mut [usize], identifiers: &[u8], ends: &[usize], marks: &[u8]) -> Ranking
+fn rank_names(
+    order: &mut [usize],
+    identifiers: &[u8],
+    ends: &[usize],
+    marks: &[u8],
+) -> Result<usize, Refusal>
     requires { MarkedNames identifiers.now ends.now marks.now order.old }
     ensures { NamesRanked (lent_cut identifiers.now ends.now) marks.now result order.new }
 {
     if !order_names(order, identifiers, ends) {
-        return Ranking::Refused(4);
+        return Err(Refusal::DoubleName);
     }
-    Ranking::Ranked(keep_linear(order, marks))
+    Ok(keep_linear(order, marks))
 }
 
 // Tests a catalogue, and puts the supplied place of each rank into the buffer.
-pub fn rank_targets(
-    ranked: &mut [usize],
-    identifiers: &[u8],
-    identifier_ends: &[usize],
-    bases: &[u8],
-    base_ends: &[usize],
-    marks: &[u8],
-) -> Ranking
+pub fn rank_targets(ranked: &mut [usize], catalogue: LentCatalogue<'_>) -> Result<usize, Refusal>
     requires { max_targets ≤ length ranked.old }
-    ensures { RankedAs (lent_catalogue identifiers.now identifier_ends.now bases.now base_ends.now marks.now) result ranked.new }
+    ensures { RankedAs (catalogue_in catalogue.entry) result ranked.new }
 {
-    if !in_bounds(identifiers, identifier_ends, bases, base_ends, marks) {
-        return Ranking::Refused(2);
+    if !in_bounds(catalogue) {
+        return Err(Refusal::Catalogue);
     }
-    if !all_proper(bases, base_ends) {
-        return Ranking::Refused(3);
+    if !all_proper(catalogue.bases, catalogue.base_ends) {
+        return Err(Refusal::TargetBases);
     }
-    let n = identifier_ends.len();
-    rank_names(&mut ranked[..n], identifiers, identifier_ends, marks)
+    let n = catalogue.identifier_ends.len();
+    rank_names(
+        &mut ranked[..n],
+        catalogue.identifiers,
+        catalogue.identifier_ends,
+        catalogue.marks,
+    )
 }

@@ -2,11 +2,13 @@
 #![tactic(auto)]
 
 ghost use Rattle.std.specs.Prelude.{◌+◌, ◌≤◌, length};
+ghost use Rattle.promises.specs.Refusal.{refusal_number};
 ghost use Rattle.catch_lines.specs.Lines.{line_room};
 ghost use Rattle.catch_advance.specs.Advancing.{Refuses, Waits, Stays};
 
 use catch_lines::put_refusal;
 use catch_progress::Progress;
+use promises::refusal::Refusal;
 
 // Where the output ends, and how far the step went.
 #[derive(Clone, Copy)]
@@ -16,11 +18,11 @@ pub struct Advance {
 }
 
 // The run ends in a refusal.
-pub fn refuse(out: &mut [u8], at: usize, number: u64) -> Advance
+pub fn refuse(out: &mut [u8], at: usize, refusal: Refusal) -> Advance
     requires { at + line_room ≤ length out.old }
-    ensures { Refuses number out.old at out.new result }
+    ensures { Refuses (refusal_number refusal) out.old at out.new result }
 {
-    let end = put_refusal(out, at, number);
+    let end = put_refusal(out, at, refusal);
     Advance {
         at: end,
         progress: Progress::Ended,
@@ -43,7 +45,7 @@ pub fn wait_or_refuse(out: &mut [u8], at: usize, ended: bool) -> Advance
     ensures { Stays ended out.old at out.new result }
 {
     if ended {
-        return refuse(out, at, 20);
+        return refuse(out, at, Refusal::JobStream);
     }
     wait(at)
 }

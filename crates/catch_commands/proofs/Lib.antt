@@ -1,5 +1,4 @@
 pub mod Number
-pub mod Names
 pub mod Pieces
 pub mod Settings
 pub mod Targets

@@ -1,11 +1,10 @@
 -- What the bytes that are there tell of every stream that begins with them (REFERENCE.md, "Stream").
-use Rattle.std.specs.Prelude.{◌≡◌, List, ◌++◌, ℕ, ◌+◌, ◌≤◌, ◌<◌, length, drop}
+use Rattle.std.specs.Prelude.{◌≡◌, List, ◌++◌, ℕ, ◌+◌, ◌≤◌, ◌<◌, length, drop, Result, Ok, Err}
+use Rattle.audit_model.specs.declared.settings.Settings.{Settings}
+use Rattle.catch_commands.specs.declared.Unread.{Unread}
+use Rattle.catch_commands.specs.declared.Unread.TheVariants as unread
 use Rattle.lists.specs.Cut.{window}
 use Rattle.catalogue.specs.Catalogue.{Catalogue, max_identifier}
-use Rattle.catch_commands.specs.declared.SettingsRead.{SettingsRead}
-use Rattle.catch_commands.specs.declared.SettingsRead.TheVariants as settings
-use Rattle.catch_commands.specs.declared.TargetRead.{TargetRead}
-use Rattle.catch_commands.specs.declared.TargetRead.TheVariants as targets
 use Rattle.catch_commands.specs.declared.TargetHead.{TargetHead}
 use Rattle.catch_commands.specs.Operands.{Parsed, parsed, wrong, short}
 use Rattle.catch_commands.specs.Commands.{max_stream_targets, max_stream_bases, settings_in, with_target, target_in}
@@ -29,10 +28,10 @@ module _ {A : Type 0} (parser : List ℕ → Parsed A) (bytes : List ℕ) where
 
 -- ---- commands
 
-abbrev pub SettingsTold : List ℕ → SettingsRead → Type 0
-SettingsTold bytes (settings.Read s) = Read settings_in bytes s 11
-SettingsTold bytes settings.Wrong = Refused settings_in bytes
-SettingsTold bytes settings.More = Short settings_in bytes 11
+abbrev pub SettingsTold : List ℕ → Result Settings Unread → Type 0
+SettingsTold bytes (Ok s) = Read settings_in bytes s 11
+SettingsTold bytes (Err unread.Wrong) = Refused settings_in bytes
+SettingsTold bytes (Err unread.More) = Short settings_in bytes 11
 
 -- a target, with the identifier and the bases where they stand
 abbrev pub target_at : Catalogue → List ℕ → TargetHead → Catalogue
@@ -48,11 +47,11 @@ pub record TargetWithin (targets held : ℕ) (h : TargetHead) : Type 0 where
   pub identifier : h.name ≤ max_identifier
   pub bases : held + h.count ≤ max_stream_bases
 
-abbrev pub TargetTold : Catalogue → List ℕ → TargetRead → Type 0
-TargetTold c bytes (targets.Read h) = Read (target_in c) bytes (target_at c bytes h) (6 + h.name + h.count) × TargetWithin (length c.marks) (length c.bases) h
-TargetTold c bytes targets.Wrong = Refused (target_in c) bytes
-TargetTold c bytes targets.More = Short (target_in c) bytes longest_target
+abbrev pub TargetTold : Catalogue → List ℕ → Result TargetHead Unread → Type 0
+TargetTold c bytes (Ok h) = Read (target_in c) bytes (target_at c bytes h) (6 + h.name + h.count) × TargetWithin (length c.marks) (length c.bases) h
+TargetTold c bytes (Err unread.Wrong) = Refused (target_in c) bytes
+TargetTold c bytes (Err unread.More) = Short (target_in c) bytes longest_target
 
 -- of every catalogue with so many targets and bases
-abbrev pub TargetsTold : ℕ → ℕ → List ℕ → TargetRead → Type 0
+abbrev pub TargetsTold : ℕ → ℕ → List ℕ → Result TargetHead Unread → Type 0
 TargetsTold targets held bytes r = (c : Catalogue) → length c.marks ≡ targets → length c.bases ≡ held → TargetTold c bytes r

@@ -10,9 +10,9 @@ ghost use Rattle.catch_commands.specs.Telling.{SettingsTold, TargetsTold};
 use audit_codes::mode_of;
 use audit_model::settings::Settings;
 
-#[derive(Clone, Copy)]
-pub enum SettingsRead {
-    Read(Settings),
+// Bytes of which nothing was read: they are wrong, or more of them are needed.
+#[derive(Clone, Copy, Debug, PartialEq, Eq)]
+pub enum Unread {
     Wrong,
     More,
 }
@@ -25,44 +25,34 @@ pub struct TargetHead {
     pub count: usize,
 }
 
-#[derive(Clone, Copy)]
-pub enum TargetRead {
-    Read(TargetHead),
-    Wrong,
-    More,
-}
-
 // The number that bytes stand for, the lowest first.
 pub fn little_endian(bytes: &[u8]) -> u64
     requires { length bytes.now ≤ 8 }
     ensures { result ≡ little_endian bytes.now }
 {
-    let n = bytes.len();
-    let mut i: usize = 0;
-    let mut number: u64 = 0;
-    while i < n {
-        i += 1;
-        number = number * 256 + bytes[n - i] as u64;
+    let mut number = 0;
+    for i in (0..bytes.len()).rev() {
+        number = number * 256 + bytes[i] as u64;
     }
     number
 }
 
 // Settings, behind 01.
-pub fn read_settings(bytes: &[u8]) -> SettingsRead
+pub fn read_settings(bytes: &[u8]) -> Result<Settings, Unread>
     ensures { SettingsTold bytes.now result }
 {
     if bytes.len() < 11 {
-        return SettingsRead::More;
+        return Err(Unread::More);
     }
     let mode = bytes[0];
     let remap = bytes[1];
     if 1 < mode {
-        return SettingsRead::Wrong;
+        return Err(Unread::Wrong);
     }
     if 1 < remap {
-        return SettingsRead::Wrong;
+        return Err(Unread::Wrong);
     }
-    SettingsRead::Read(Settings {
+    Ok(Settings {
         mode: mode_of(mode),
         remap: remap == 1,
         floor: bytes[2],
@@ -74,19 +64,7 @@ pub fn read_settings(bytes: &[u8]) -> SettingsRead
 fn is_name(bytes: &[u8]) -> bool
     ensures { result ≡ every is_name_byte bytes.now }
 {
-    let n = bytes.len();
-    let mut i: usize = 0;
-    while i < n {
-        let byte = bytes[i];
-        if byte < 33 {
-            return false;
-        }
-        if 126 < byte {
-            return false;
-        }
-        i += 1;
-    }
-    true
+    bytes.iter().all(|b| matches!(*b, b'!'..=b'~'))
 }
 
 // Whether a target may follow others of so many bases.
@@ -94,43 +72,31 @@ fn target_fits(topology: u8, name: usize, count: u64, targets: usize, held: usiz
     requires { held ≤ 1024 }
     ensures { result ≡ target_fits topology name count targets held }
 {
-    if 1 < topology {
-        return false;
-    }
-    if name < 1 {
-        return false;
-    }
-    if 16 <= targets {
-        return false;
-    }
-    if 1024 - (held as u64) < count {
-        return false;
-    }
-    true
+    topology <= 1 && 1 <= name && targets < 16 && count <= 1024 - held as u64
 }
 
 // A target, behind 02, in a catalogue of so many targets and bases.
-pub fn read_target(bytes: &[u8], targets: usize, held: usize) -> TargetRead
+pub fn read_target(bytes: &[u8], targets: usize, held: usize) -> Result<TargetHead, Unread>
     requires { held ≤ 1024 }
     ensures { TargetsTold targets held bytes.now result }
 {
     if bytes.len() < 6 {
-        return TargetRead::More;
+        return Err(Unread::More);
     }
     let topology = bytes[0];
     let name = bytes[1] as usize;
     let count = little_endian(&bytes[2..6]);
     if !target_fits(topology, name, count, targets, held) {
-        return TargetRead::Wrong;
+        return Err(Unread::Wrong);
     }
     let count = count as usize;
     if bytes.len() - 6 < name + count {
-        return TargetRead::More;
+        return Err(Unread::More);
     }
     if !is_name(&bytes[6..6 + name]) {
-        return TargetRead::Wrong;
+        return Err(Unread::Wrong);
     }
-    TargetRead::Read(TargetHead {
+    Ok(TargetHead {
         topology,
         name,
         count,

@@ -1,9 +1,8 @@
 -- The fields of lines (REFERENCE.md, "Lines").
-use Rattle.std.specs.Prelude.{cond, List, [], ◌∷◌, ℕ, zero, suc, eqb, ltb}
+use Rattle.std.specs.Prelude.{cond, List, [], ◌∷◌, ℕ, zero, suc, eqb, ltb, Option, Some, None}
+use Rattle.audit_model.specs.declared.sheet.PlacementTotals.{PlacementTotals}
 use Rattle.catch_text.specs.Text.{text, decimal}
 use Rattle.map_answers.specs.Answer.{Row}
-use Rattle.audit_model.specs.declared.sheet.Availability.{Availability}
-use Rattle.audit_model.specs.declared.sheet.Availability.TheVariants as totals
 
 -- the role with a number
 abbrev pub role_word : ℕ → List ℕ
@@ -19,6 +18,6 @@ abbrev pub strand_word : ℕ → List ℕ
 strand_word strand = cond (eqb strand 0) (text "+") (text "-")
 
 -- three totals, or '-' for each
-abbrev pub total_words : Availability → List (List ℕ)
-total_words totals.Unavailable = text "-" ∷ text "-" ∷ text "-" ∷ []
-total_words (totals.Available t) = decimal t.placements ∷ decimal t.singles ∷ decimal t.multi ∷ []
+abbrev pub total_words : Option PlacementTotals → List (List ℕ)
+total_words None = text "-" ∷ text "-" ∷ text "-" ∷ []
+total_words (Some t) = decimal t.placements ∷ decimal t.singles ∷ decimal t.multi ∷ []

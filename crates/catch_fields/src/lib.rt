@@ -10,7 +10,7 @@ ghost use Rattle.catch_fields.specs.Fields.{role_word, places_word, strand_word,
 ghost use Rattle.catch_text.specs.Writing.{AddsAtMost};
 
 use audit_model::settings::MateRole;
-use audit_model::sheet::{Availability, Status};
+use audit_model::sheet::{PlacementTotals, Status};
 use catch_text::{put_bytes, put_decimal};
 use map_answers::answer::{Mapping, state_number};
 
@@ -65,13 +65,13 @@ pub fn put_status(out: &mut [u8], at: usize, status: Status) -> usize
 }
 
 // Three totals, each behind a space.
-pub fn put_totals(out: &mut [u8], at: usize, totals: Availability) -> usize
+pub fn put_totals(out: &mut [u8], at: usize, totals: Option<PlacementTotals>) -> usize
     requires { at + 63 ≤ length out.old }
     ensures { AddsAtMost 63 (spaced (total_words totals)) out.old at out.new result }
 {
     match totals {
-        Availability::Unavailable => put_bytes(out, at, b" - - -"),
-        Availability::Available(t) => {
+        None => put_bytes(out, at, b" - - -"),
+        Some(t) => {
             let a = put_bytes(out, at, b" ");
             let b = put_decimal(out, a, t.placements);
             let c = put_bytes(out, b, b" ");

@@ -1,16 +1,16 @@
 -- The lines of a finish, answer by answer, and that they are what `catch` writes at its end.
+use Rattle.std.specs.Prelude.{Result, Ok, Err}
+use Rattle.promises.specs.declared.refusal.Refusal.{Refusal}
 use mathlib.Core.Path.{◌≡◌, sym, ap, ◌∙◌}
 use mathlib.Core.Bool.{true}
 use mathlib.Core.List.{List, [], ◌∷◌}
 use Prim.Native.Nat.{ℕ}
 use native.Mathlib.Omega.{arith}
 use lib.ListN.{length}
-use Rattle.promises.specs.Refusal.{◌or_else◌, outcome, if_passed}
+use Rattle.promises.specs.Refusal.{refusal_number, ◌or_else◌, outcome, if_passed}
 use Rattle.promises.proofs.Refusing.{outcome_accepted, outcome_number}
 use Rattle.catalogue.specs.Catalogue.{Catalogue, names, in_bounds}
 use Rattle.audit_ledger.specs.Booking.{Counters}
-use Rattle.audit_model.specs.declared.calls.CallAnswer.{CallAnswer}
-use Rattle.audit_model.specs.declared.calls.CallAnswer.TheVariants as calls
 use Rattle.audit_model.specs.declared.calls.Finish.{Finish}
 use Rattle.audit_model.specs.declared.sheet.Sheet.{Sheet}
 use Rattle.audit_model.specs.Settings.{Held, audit_seed, audit_offset}
@@ -28,13 +28,13 @@ use Rattle.catch_finish_lines.specs.Finish.{answer_told, finish_lines}
 
 -- ---- answer by answer
 
-module _ (sheet : Sheet) (k : Counters) (ns : List (List ℕ)) (ms : List ℕ) (n : ℕ) (out : List ℕ) (at : ℕ) (out' : List ℕ) (r : ℕ) (a : CallAnswer) where
+module _ (sheet : Sheet) (k : Counters) (ns : List (List ℕ)) (ms : List ℕ) (n : ℕ) (out : List ℕ) (at : ℕ) (out' : List ℕ) (r : ℕ) (a : Result (Unit {0}) Refusal) where
   -- a refusal, which takes no more room than a sheet
-  pub refusal_added : (m : ℕ) → a ≡ calls.Refused m → (m' : ℕ) → m' ≡ m → AddsAtMost line_room (refusal_line m') out at out' r → AddsAtMost (sheet_room n) (answer_told a sheet k ns ms n) out at out' r
-  refusal_added m e m' same h = rw (e, sym same) (record { adds = h.adds; room = omega arith })
+  pub refusal_added : (e : Refusal) → a ≡ Err e → AddsAtMost line_room (refusal_line (refusal_number e)) out at out' r → AddsAtMost (sheet_room n) (answer_told a sheet k ns ms n) out at out' r
+  refusal_added e told h = rw told (record { adds = h.adds; room = omega arith })
 
   -- the lines of a sheet
-  pub sheet_added : a ≡ calls.Accepted → (at' : ℕ) (k' : Counters) → AddsAtMost (sheet_room n) (sheet_told sheet k' ns ms n) out at' out' r → at' ≡ at → k' ≡ k → AddsAtMost (sheet_room n) (answer_told a sheet k ns ms n) out at out' r
+  pub sheet_added : a ≡ Ok tt → (at' : ℕ) (k' : Counters) → AddsAtMost (sheet_room n) (sheet_told sheet k' ns ms n) out at' out' r → at' ≡ at → k' ≡ k → AddsAtMost (sheet_room n) (answer_told a sheet k ns ms n) out at out' r
   sheet_added e at' k' h here same = rw (e, sym here, sym same) h
 
 -- ---- the end of a run
@@ -45,11 +45,11 @@ module _ (c : Catalogue) (within : in_bounds c ≡ true) (h : Held) (opened : op
   unfolding finish_refusal
   books_decide = ap (λ m. m or_else books_refusal h) opened
 
-  told : (a : CallAnswer) (sheet : Sheet) → call_outcome a ≡ outcome (books_refusal h) tt → sheet ≡ if_passed (books_refusal h) (sheet_of h) zero_sheet → answer_told a sheet h.counters (names c) c.marks (length c.identifier_ends) ≡ still (running c h) (5 ∷ [])
-  told (calls.Refused n) sheet e f =
-      let w = outcome_number (books_refusal h) n tt (sym e) in
-      sym (finish_refuses c h n (books_decide ∙ w.0) w.1)
-  told calls.Accepted sheet e f =
+  told : (a : Result (Unit {0}) Refusal) (sheet : Sheet) → call_outcome a ≡ outcome (books_refusal h) tt → sheet ≡ if_passed (books_refusal h) (sheet_of h) zero_sheet → answer_told a sheet h.counters (names c) c.marks (length c.identifier_ends) ≡ still (running c h) (5 ∷ [])
+  told (Err n) sheet e f =
+      let w = outcome_number (books_refusal h) (refusal_number n) tt (sym e) in
+      sym (finish_refuses c h (refusal_number n) (books_decide ∙ w.0) w.1)
+  told (Ok u) sheet e f =
       let w = outcome_accepted (books_refusal h) tt tt (sym e) in
       let g : sheet ≡ sheet_of h = f ∙ ap (λ m. if_passed m (sheet_of h) zero_sheet) w.0 in
       ap (λ s. sheet_told s h.counters (names c) c.marks (length c.identifier_ends)) g ∙ sym (sheet_told_lem c within h) ∙ sym (finish_accepts c h (books_decide ∙ w.0))

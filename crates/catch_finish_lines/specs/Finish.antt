@@ -1,17 +1,17 @@
 -- The lines of a finish's answer (REFERENCE.md, "Lines").
-use Rattle.std.specs.Prelude.{List, ℕ}
+use Rattle.std.specs.Prelude.{List, ℕ, Result, Ok, Err}
+use Rattle.promises.specs.declared.refusal.Refusal.{Refusal}
+use Rattle.promises.specs.Refusal.{refusal_number}
 use Rattle.audit_ledger.specs.Booking.{Counters}
-use Rattle.audit_model.specs.declared.calls.CallAnswer.{CallAnswer}
-use Rattle.audit_model.specs.declared.calls.CallAnswer.TheVariants as calls
 use Rattle.audit_model.specs.declared.calls.Finish.{Finish}
 use Rattle.audit_model.specs.declared.sheet.Sheet.{Sheet}
 use Rattle.catch_lines.specs.Lines.{refusal_line}
 use Rattle.catch_sheet_lines.specs.Lent.{sheet_told}
 
 -- its refusal, or the lines of its sheet
-abbrev pub answer_told : CallAnswer → Sheet → Counters → List (List ℕ) → List ℕ → ℕ → List ℕ
-answer_told (calls.Refused number) sheet k names marks n = refusal_line number
-answer_told calls.Accepted sheet k names marks n = sheet_told sheet k names marks n
+abbrev pub answer_told : Result (Unit {0}) Refusal → Sheet → Counters → List (List ℕ) → List ℕ → ℕ → List ℕ
+answer_told (Err refusal) sheet k names marks n = refusal_line (refusal_number refusal)
+answer_told (Ok u) sheet k names marks n = sheet_told sheet k names marks n
 
 abbrev pub finish_lines : Finish → Counters → List (List ℕ) → List ℕ → ℕ → List ℕ
 finish_lines r = answer_told r.answer r.sheet

@@ -1,12 +1,12 @@
 -- The answer of an audited fragment: its groups stand in the entries, and its lines have room.
+use Rattle.std.specs.Prelude.{Result, Ok, Err}
+use Rattle.promises.specs.declared.refusal.Refusal.{Refusal}
 use mathlib.Core.Path.{◌≡◌, refl, sym, ap, subst, ◌∙◌}
 use mathlib.Core.List.{List, [], ◌∷◌, map, head-eq_of_cons-eq}
 use Prim.Native.Nat.{ℕ, ◌+◌, ◌*◌, ◌≤◌, ◌<◌, ◌/◌}
 use native.Mathlib.Omega.{arith}
 use native.Mathlib.Nat.{mul_comm}
 use lib.ListN.{length, get_or, drop, length-map, length-drop}
-use types.Run.{OneOf, hit}
-use denote.Enum.Declared.{tag_of}
 use Rattle.lists.specs.Cut.{cut}
 use Rattle.promises.specs.Refusal.{accepted}
 use Rattle.promises.proofs.Refusing.{none_first, outcome_accepted}
@@ -17,9 +17,8 @@ use Rattle.map_answers.specs.Answer.{Row}
 use Rattle.map_search.proofs.Parts.{listed-room}
 use Rattle.audit_ledger.specs.Booking.{Counters}
 use Rattle.audit_counters.specs.Targets.{Targeted}
-use Rattle.audit_model.specs.declared.calls.FragmentAnswer.{FragmentAnswer}
-use Rattle.audit_model.specs.declared.calls.FragmentAnswer.TheVariants as fragments
-use Rattle.audit_model.specs.contracts.calls.FragmentAnswer.{the_type}
+use Rattle.audit_model.specs.declared.calls.FragmentRows.{FragmentRows}
+use Rattle.audit_model.specs.declared.calls.FragmentRows.TheVariants as fragments
 use Rattle.audit_model.specs.declared.settings.Settings.{Settings}
 use Rattle.audit_model.specs.Settings.{Held, role_number}
 use Rattle.audit_model.specs.Observing.{MateRead, observe, observed_groups, observed_room, observed_row}
@@ -51,10 +50,10 @@ module _ (ids ends : List ℕ) (named : ShortNames ids ends) (targets : ℕ) (ea
       }
 
 module _ (ids ends : List ℕ) (named : ShortNames ids ends) (k : Counters) (each : length k.placements ≡ length ends) (first second width : ℕ) (entries : List ℕ) where
-  answer_named : (a : FragmentAnswer) → AnswerPostable a first second width entries k → AnswerLent ids ends entries width a
-  answer_named (fragments.Refused n) p = tt
-  answer_named (fragments.Single m) p = entries-lent ids ends named (length k.placements) each entries m.groups p.first_postable.targeted
-  answer_named (fragments.Paired m) p = (
+  answer_named : (a : Result FragmentRows Refusal) → AnswerPostable a first second width entries k → AnswerLent ids ends entries width a
+  answer_named (Err n) p = tt
+  answer_named (Ok (fragments.Single m)) p = entries-lent ids ends named (length k.placements) each entries m.groups p.first_postable.targeted
+  answer_named (Ok (fragments.Paired m)) p = (
     entries-lent ids ends named (length k.placements) each entries m.first.groups p.first_postable.targeted,
     entries-lent ids ends named (length k.placements) each (drop width entries) m.second.groups (p.second_postable refl).targeted,
     p.within,
@@ -63,16 +62,16 @@ module _ (ids ends : List ℕ) (named : ShortNames ids ends) (k : Counters) (eac
 -- ---- the room of its lines
 
 -- the first of two reads has no more groups than its share
-abbrev FirstFew : ℕ → FragmentAnswer → Type 0
-FirstFew share (fragments.Refused n) = Unit {0}
-FirstFew share (fragments.Single m) = Unit {0}
-FirstFew share (fragments.Paired m) = m.first.groups ≤ share
+abbrev FirstFew : ℕ → Result FragmentRows Refusal → Type 0
+FirstFew share (Err n) = Unit {0}
+FirstFew share (Ok (fragments.Single m)) = Unit {0}
+FirstFew share (Ok (fragments.Paired m)) = m.first.groups ≤ share
 
 -- the entries have 256 groups, however they are shared
-answer_room_lem : (ids ends entries : List ℕ) (share : ℕ) → length entries ≡ 4 * stream_entries → (a : FragmentAnswer) → AnswerLent ids ends entries (4 * share) a → FirstFew share a → answer_room a ≤ step_room
-answer_room_lem ids ends entries share whole (fragments.Refused n) l f = omega arith
-answer_room_lem ids ends entries share whole (fragments.Single m) l f = omega (arith, whole, l.listed)
-answer_room_lem ids ends entries share whole (fragments.Paired m) l f = omega (arith, whole, f, l.1.listed, l.2, length-drop (4 * share) entries)
+answer_room_lem : (ids ends entries : List ℕ) (share : ℕ) → length entries ≡ 4 * stream_entries → (a : Result FragmentRows Refusal) → AnswerLent ids ends entries (4 * share) a → FirstFew share a → answer_room a ≤ step_room
+answer_room_lem ids ends entries share whole (Err n) l f = omega arith
+answer_room_lem ids ends entries share whole (Ok (fragments.Single m)) l f = omega (arith, whole, l.listed)
+answer_room_lem ids ends entries share whole (Ok (fragments.Paired m)) l f = omega (arith, whole, f, l.1.listed, l.2, length-drop (4 * share) entries)
 
 module _ (offset : ℕ) (s : Settings) (ss : List (List ℕ)) (way : Way) (share : ℕ) where
   -- a read has no more than its share
@@ -91,11 +90,11 @@ module _ (bases base_ends ranked ks rs os ids ends bytes : List ℕ) (head : Fra
   abbrev ss : List (List ℕ)
   ss = ranked_sequences bases base_ends ranked
 
-  abbrev Seen : Fragment → FragmentAnswer → Type 0
+  abbrev Seen : Fragment → Result FragmentRows Refusal → Type 0
   Seen f r = TestedObserved offset ss way ranked h f r entries entries'
 
   -- accepted, it is not refused, and each read has a row
-  module _ (f : Fragment) (r : FragmentAnswer) (rows : List Row) (seen : Seen f r) (told : fragment_outcome r ≡ accepted rows) where
+  module _ (f : Fragment) (r : Result FragmentRows Refusal) (rows : List Row) (seen : Seen f r) (told : fragment_outcome r ≡ accepted rows) where
     unrefused : (tested_refusal offset ss ranked h f (entry_count entries) ≡ 0) × (tested_rows offset ss ranked h f way ≡ rows)
     unrefused = outcome_accepted (tested_refusal offset ss ranked h f (entry_count entries)) (tested_rows offset ss ranked h f way) rows (sym seen.answer ∙ told)
 
@@ -103,32 +102,32 @@ module _ (bases base_ends ranked ks rs os ids ends bytes : List ℕ) (head : Fra
     as_many = sym (length-map f.reads (λ (r : MateRead). observed_row h.state.settings ss way (observe offset h.state.settings r))) ∙ ap length unrefused.1
 
   -- accepted, as its reads were lent
-  accepted_lent : (ordinal count : ℕ) (m m' : MateRead) (r : FragmentAnswer) → Seen (fragment_of ordinal count m m') r → OneOf (1 ∷ 2 ∷ []) (tag_of the_type r) → AnswerLent ids ends entries' (4 * share) r
-  accepted_lent ordinal count m m' r seen tag =
-      answer_named ids ends lent.named h.counters lent.each (role_number m.role) (role_number m'.role) (4 * share) entries' r
-      (raisable offset ss way ranked h ordinal count m m' entries entries' r seen tag
+  accepted_lent : (ordinal count : ℕ) (m m' : MateRead) (rows : FragmentRows) → Seen (fragment_of ordinal count m m') (Ok rows) → AnswerLent ids ends entries' (4 * share) (Ok rows)
+  accepted_lent ordinal count m m' rows seen =
+      answer_named ids ends lent.named h.counters lent.each (role_number m.role) (role_number m'.role) (4 * share) entries' (Ok rows)
+      (raisable offset ss way ranked h ordinal count m m' entries entries' (Ok rows) seen rows refl
       lent.tested.limit lent.tested.counters lent.tested.places (sym (length-map ranked (λ p. get_or (cut base_ends bases) p []))) share shared).postable
 
   -- with whatever reads: there are as many as are told
-  reads_lent : (ordinal : ℕ) (reads : List MateRead) (r : FragmentAnswer) → Seen (record { ordinal = ordinal; reads = reads }) r → AnswerLent ids ends entries' (4 * share) r
-  reads_lent ordinal reads (fragments.Refused n) seen = tt
-  reads_lent ordinal [] (fragments.Single a) seen = absurd (omega (arith, as_many _ (fragments.Single a) (mapping_row a ∷ []) seen refl))
-  reads_lent ordinal (m ∷ []) (fragments.Single a) seen = accepted_lent ordinal 1 m m (fragments.Single a) seen (hit (1 ∷ 2 ∷ []) 1 tt)
-  reads_lent ordinal (m ∷ m' ∷ ms) (fragments.Single a) seen = absurd (omega (arith, as_many _ (fragments.Single a) (mapping_row a ∷ []) seen refl))
-  reads_lent ordinal [] (fragments.Paired a) seen = absurd (omega (arith, as_many _ (fragments.Paired a) (mapping_row a.first ∷ mapping_row a.second ∷ []) seen refl))
-  reads_lent ordinal (m ∷ []) (fragments.Paired a) seen = absurd (omega (arith, as_many _ (fragments.Paired a) (mapping_row a.first ∷ mapping_row a.second ∷ []) seen refl))
-  reads_lent ordinal (m ∷ m' ∷ []) (fragments.Paired a) seen = accepted_lent ordinal 2 m m' (fragments.Paired a) seen (hit (1 ∷ 2 ∷ []) 2 tt)
-  reads_lent ordinal (m ∷ m' ∷ m'' ∷ ms) (fragments.Paired a) seen = absurd (omega (arith, as_many _ (fragments.Paired a) (mapping_row a.first ∷ mapping_row a.second ∷ []) seen refl))
+  reads_lent : (ordinal : ℕ) (reads : List MateRead) (r : Result FragmentRows Refusal) → Seen (record { ordinal = ordinal; reads = reads }) r → AnswerLent ids ends entries' (4 * share) r
+  reads_lent ordinal reads (Err n) seen = tt
+  reads_lent ordinal [] (Ok (fragments.Single a)) seen = absurd (omega (arith, as_many _ (Ok (fragments.Single a)) (mapping_row a ∷ []) seen refl))
+  reads_lent ordinal (m ∷ []) (Ok (fragments.Single a)) seen = accepted_lent ordinal 1 m m (fragments.Single a) seen
+  reads_lent ordinal (m ∷ m' ∷ ms) (Ok (fragments.Single a)) seen = absurd (omega (arith, as_many _ (Ok (fragments.Single a)) (mapping_row a ∷ []) seen refl))
+  reads_lent ordinal [] (Ok (fragments.Paired a)) seen = absurd (omega (arith, as_many _ (Ok (fragments.Paired a)) (mapping_row a.first ∷ mapping_row a.second ∷ []) seen refl))
+  reads_lent ordinal (m ∷ []) (Ok (fragments.Paired a)) seen = absurd (omega (arith, as_many _ (Ok (fragments.Paired a)) (mapping_row a.first ∷ mapping_row a.second ∷ []) seen refl))
+  reads_lent ordinal (m ∷ m' ∷ []) (Ok (fragments.Paired a)) seen = accepted_lent ordinal 2 m m' (fragments.Paired a) seen
+  reads_lent ordinal (m ∷ m' ∷ m'' ∷ ms) (Ok (fragments.Paired a)) seen = absurd (omega (arith, as_many _ (Ok (fragments.Paired a)) (mapping_row a.first ∷ mapping_row a.second ∷ []) seen refl))
 
-  few : (f : Fragment) (r : FragmentAnswer) → Seen f r → FirstFew share r
-  few f (fragments.Refused n) seen = tt
-  few f (fragments.Single a) seen = tt
-  few f (fragments.Paired a) seen =
-      let o = unrefused f (fragments.Paired a) (mapping_row a.first ∷ mapping_row a.second ∷ []) seen refl in
+  few : (f : Fragment) (r : Result FragmentRows Refusal) → Seen f r → FirstFew share r
+  few f (Err n) seen = tt
+  few f (Ok (fragments.Single a)) seen = tt
+  few f (Ok (fragments.Paired a)) seen =
+      let o = unrefused f (Ok (fragments.Paired a)) (mapping_row a.first ∷ mapping_row a.second ∷ []) seen refl in
       let z = (tested_checked offset ss way ranked h f (entry_count entries) o.0).rooms in
       first_few offset h.state.settings ss way share f.reads (mapping_row a.first) (mapping_row a.second ∷ []) o.1 (rw shared z)
 
-  module _ (f : Fragment) (r : FragmentAnswer) (seen : Seen f r) where
+  module _ (f : Fragment) (r : Result FragmentRows Refusal) (seen : Seen f r) where
     short : answer_room r ≤ step_room
     short = answer_room_lem ids ends entries' share (same ∙ lent.whole) r (reads_lent f.ordinal f.reads r seen) (few f r seen)
 

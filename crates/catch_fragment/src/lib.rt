@@ -3,7 +3,7 @@
 
 ghost use Rattle.std.specs.Prelude.{length};
 ghost use Rattle.identifiers.specs.Lent.{lent_cut};
-ghost use Rattle.index_model.specs.Index.{lent_sequences};
+ghost use Rattle.index_model.specs.Index.{sequences_in};
 ghost use Rattle.audit_ledger.specs.Booking.{counters_of, left_counters};
 ghost use Rattle.audit_model.specs.Calls.{lent_held};
 ghost use Rattle.catch_fragment.specs.Told.{TellLent, TellsFragment};
@@ -14,6 +14,8 @@ use audit_observe_reads::share_of;
 use audit_tested::audit_tested;
 use catch_fragment_lines::put_answer;
 use catch_fragments::FragmentHead;
+use index_columns::LentIndex;
+use index_model::ranked::RankedTargets;
 
 // Where the output ends, and the answer with the state.
 #[derive(Clone, Copy)]
@@ -29,22 +31,18 @@ pub fn tell_fragment(
     placements: &mut [u64],
     singles: &mut [u64],
     multi: &mut [u64],
-    keys: &[u64],
-    ranks: &[u64],
-    positions: &[u64],
+    index: LentIndex<'_>,
     identifiers: &[u8],
     identifier_ends: &[usize],
-    bases: &[u8],
-    base_ends: &[usize],
-    ranked: &[usize],
+    targets: RankedTargets<'_>,
     at: usize,
     bytes: &[u8],
     head: FragmentHead,
     state: AuditState,
 ) -> ToldFragment
-    requires { TellLent bases.now base_ends.now ranked.now keys.now ranks.now positions.now identifiers.now identifier_ends.now bytes.now head state.settings
+    requires { TellLent targets.bases.now targets.ends.now targets.ranked.now index.keys.now index.ranks.now index.positions.now identifiers.now identifier_ends.now bytes.now head state.settings
         (counters_of placements.old singles.old multi.old) entries.old out.old at }
-    ensures { TellsFragment (lent_sequences bases.now base_ends.now ranked.now) ranked.now (lent_cut identifiers.now identifier_ends.now) (lent_held state placements.old singles.old multi.old) bytes.now head result
+    ensures { TellsFragment (sequences_in targets.entry) targets.entry.ranked.now (lent_cut identifiers.now identifier_ends.now) (lent_held state placements.old singles.old multi.old) bytes.now head result
         (left_counters placements.new singles.new multi.new) entries.old entries.new out.old at out.new }
 {
     let first = head.first;
@@ -67,12 +65,8 @@ pub fn tell_fragment(
         placements,
         singles,
         multi,
-        keys,
-        ranks,
-        positions,
-        bases,
-        base_ends,
-        ranked,
+        index,
+        targets,
         &bytes[a..b],
         &bytes[b..c],
         &bytes[d..e],
@@ -88,7 +82,6 @@ pub fn tell_fragment(
         AUDIT_OFFSET,
         state,
     );
-    let answer = audit.answer;
     let end = put_answer(
         out,
         at,
@@ -99,7 +92,7 @@ pub fn tell_fragment(
         ordinal,
         first_role,
         second_role,
-        answer,
+        audit.answer,
     );
     ToldFragment { end, audit }
 }

@@ -1,4 +1,6 @@
 -- The lines of an answer, case by case.
+use Rattle.std.specs.Prelude.{Result, Ok}
+use Rattle.promises.specs.declared.refusal.Refusal.{Refusal}
 use mathlib.Core.Path.{◌≡◌, sym, subst}
 use mathlib.Core.List.{List, ◌++◌}
 use Prim.Native.Nat.{ℕ, ◌+◌, ◌-◌, ◌≤◌}
@@ -7,13 +9,17 @@ use lib.ListN.{length, take, drop, length-drop}
 use lib.Seq.{take_all}
 use Rattle.map_answers.specs.Answer.{Row}
 use Rattle.map_answers.specs.declared.answer.Mapping.{Mapping}
-use Rattle.audit_model.specs.declared.calls.FragmentAnswer.{FragmentAnswer}
-use Rattle.audit_model.specs.declared.calls.FragmentAnswer.TheVariants as fragments
+use Rattle.audit_model.specs.declared.calls.FragmentRows.{FragmentRows}
+use Rattle.audit_model.specs.declared.calls.FragmentRows.TheVariants as fragments
 use Rattle.audit_model.specs.declared.calls.Mates.{Mates}
 use Rattle.catch_text.specs.Writing.{AddsAtMost}
 use Rattle.catch_text.proofs.Adding.{adds_both}
 use Rattle.catch_sheet_lines.specs.Lent.{read_told, EntriesLent}
 use Rattle.catch_fragment_lines.specs.Answer.{answer_lines, answer_room, AnswerLent}
+
+-- an answer with its rows
+pub answered : {a : Result FragmentRows Refusal} {x y : FragmentRows} → a ≡ Ok x → x ≡ y → a ≡ Ok y
+answered e f = rw f at e
 
 -- bytes behind bytes
 pub two_added : {i j : ℕ} {a b out out₁ out' : List ℕ} {at p r : ℕ} → AddsAtMost i a out at out₁ p → AddsAtMost j b out₁ p out' r → AddsAtMost (i + j) (a ++ b) out at out' r
@@ -23,20 +29,20 @@ two_added f g = record { adds = adds_both f.adds g.adds; room = omega arith }
 pub fewer_lent : (ids ends entries : List ℕ) (m n : ℕ) → m ≤ n → EntriesLent ids ends entries n → EntriesLent ids ends entries m
 fewer_lent ids ends entries m n h l = record { named = l.named; listed = omega (arith, l.listed); placed = λ i below. l.placed i (omega arith) }
 
-module _ (ids ends entries : List ℕ) (width : ℕ) (a : FragmentAnswer) (lent : AnswerLent ids ends entries width a) where
-  pub lent_single : (m : Mapping) → a ≡ fragments.Single m → EntriesLent ids ends entries m.groups
+module _ (ids ends entries : List ℕ) (width : ℕ) (a : Result FragmentRows Refusal) (lent : AnswerLent ids ends entries width a) where
+  pub lent_single : (m : Mapping) → a ≡ Ok (fragments.Single m) → EntriesLent ids ends entries m.groups
   lent_single m e = subst (AnswerLent ids ends entries width) e lent
 
-  pub lent_paired : (m : Mates) → a ≡ fragments.Paired m
+  pub lent_paired : (m : Mates) → a ≡ Ok (fragments.Paired m)
       → EntriesLent ids ends entries m.first.groups × EntriesLent ids ends (drop width entries) m.second.groups × (width ≤ length entries)
   lent_paired m e = subst (AnswerLent ids ends entries width) e lent
 
 -- the room of an answer that is known
-pub room_of : (at n : ℕ) (a b : FragmentAnswer) → a ≡ b → at + answer_room a ≤ n → at + answer_room b ≤ n
+pub room_of : (at n : ℕ) (a b : Result FragmentRows Refusal) → a ≡ b → at + answer_room a ≤ n → at + answer_room b ≤ n
 room_of at n a b e h = subst (λ x. at + answer_room x ≤ n) e h
 
 -- its lines
-pub lines_of : (ns : List (List ℕ)) (ordinal first second width : ℕ) (entries out : List ℕ) (at : ℕ) (out' : List ℕ) (r : ℕ) (a b : FragmentAnswer) → a ≡ b
+pub lines_of : (ns : List (List ℕ)) (ordinal first second width : ℕ) (entries out : List ℕ) (at : ℕ) (out' : List ℕ) (r : ℕ) (a b : Result FragmentRows Refusal) → a ≡ b
     → AddsAtMost (answer_room b) (answer_lines ns ordinal first second width b entries) out at out' r → AddsAtMost (answer_room a) (answer_lines ns ordinal first second width a entries) out at out' r
 lines_of ns ordinal first second width entries out at out' r a b e h = subst (λ x. AddsAtMost (answer_room x) (answer_lines ns ordinal first second width x entries) out at out' r) (sym e) h
 

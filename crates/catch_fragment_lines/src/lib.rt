@@ -9,11 +9,12 @@ ghost use Rattle.catch_text.specs.Writing.{AddsAtMost};
 ghost use Rattle.catch_sheet_lines.specs.Lent.{read_told, EntriesLent};
 ghost use Rattle.catch_fragment_lines.specs.Answer.{answer_lines, read_room, answer_room, AnswerLent};
 
-use audit_model::calls::FragmentAnswer;
+use audit_model::calls::FragmentRows;
 use audit_model::settings::MateRole;
 use catch_lines::{put_read, put_refusal};
 use catch_sheet_lines::groups::put_groups;
 use map_answers::answer::Mapping;
+use promises::refusal::Refusal;
 
 // R of a read, and G for each of its groups, which stand at the front of the entries.
 fn put_mate(
@@ -44,20 +45,25 @@ pub fn put_answer(
     ordinal: u64,
     first_role: MateRole,
     second_role: MateRole,
-    answer: FragmentAnswer,
+    answer: Result<FragmentRows, Refusal>,
 ) -> usize
     requires { AnswerLent identifiers.now ends.now entries.now width answer × (at + answer_room answer ≤ length out.old) }
     ensures { AddsAtMost (answer_room answer) (answer_lines (lent_cut identifiers.now ends.now) ordinal (role_number first_role) (role_number second_role) width answer entries.now)
         out.old at out.new result }
 {
     match answer {
-        FragmentAnswer::Refused(n) => put_refusal(out, at, n),
-        FragmentAnswer::Single(m) => {
-            put_mate(out, at, identifiers, ends, entries, ordinal, first_role, m)
-        }
-        FragmentAnswer::Paired(mates) => {
-            let first = mates.first;
-            let second = mates.second;
+        Err(refusal) => put_refusal(out, at, refusal),
+        Ok(FragmentRows::Single(mapping)) => put_mate(
+            out,
+            at,
+            identifiers,
+            ends,
+            entries,
+            ordinal,
+            first_role,
+            mapping,
+        ),
+        Ok(FragmentRows::Paired(mates)) => {
             let a = put_mate(
                 out,
                 at,
@@ -66,7 +72,7 @@ pub fn put_answer(
                 entries,
                 ordinal,
                 first_role,
-                first,
+                mates.first,
             );
             put_mate(
                 out,
@@ -76,7 +82,7 @@ pub fn put_answer(
                 &entries[width..],
                 ordinal,
                 second_role,
-                second,
+                mates.second,
             )
         }
     }

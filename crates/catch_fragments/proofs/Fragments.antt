@@ -1,8 +1,11 @@
 -- A fragment: nine bytes, and no read, one or two.
+use Rattle.std.specs.Prelude.{Result, Ok, Err}
 use mathlib.Core.Path.{◌≡◌, refl, sym, ap, ◌∙◌}
+use Rattle.catch_commands.specs.declared.Unread.{Unread}
+use Rattle.catch_commands.specs.declared.Unread.TheVariants as unread
 use mathlib.Core.Bool.{cond}
 use mathlib.Core.List.{List, [], ◌∷◌, ◌++◌}
-use Prim.Native.Nat.{ℕ, zero, suc, ◌+◌, ◌<◌, ◌≤◌}
+use Prim.Native.Nat.{ℕ, zero, suc, ◌<◌, ◌≤◌}
 use native.Mathlib.Omega.{arith}
 use lib.ListN.{length, get_or, take, drop, length-drop}
 use lib.Dec.{leb}
@@ -12,10 +15,7 @@ use Rattle.audit_model.specs.Observing.{MateRead}
 use Rattle.audit_model.specs.Fragment.{Fragment}
 use Rattle.audit_model.specs.Calls.{fragment_reads, fragment_of}
 use Rattle.catch_fragments.specs.declared.ReadPlace.{ReadPlace}
-use Rattle.catch_fragments.specs.declared.ReadFound.{ReadFound}
-use Rattle.catch_fragments.specs.declared.ReadFound.TheVariants as reads
-use Rattle.catch_fragments.specs.declared.FragmentRead.{FragmentRead}
-use Rattle.catch_fragments.specs.declared.FragmentRead.TheVariants as fragments
+use Rattle.catch_fragments.specs.declared.FragmentHead.{FragmentHead}
 use Rattle.catch_commands.specs.Operands.{Parsed, parsed, wrong, short, ◌followed_by◌, bytes_in, little_endian}
 use Rattle.catch_commands.specs.Commands.{max_stream_reads, read_in, reads_in, fragment_in}
 use Rattle.catch_commands.specs.Telling.{Read, Refused, Short}
@@ -39,13 +39,22 @@ first_short zero bytes h e = absurd (omega arith)
 first_short (suc n) bytes h e = behind_short (read_in bytes) (next_read n) e
 
 module _ (b : List ℕ) (count : ℕ) (least : 1 ≤ count) where
-  pub reads_refused : Refused read_in (drop 9 b) → Refused (reads_in count) (drop 9 b)
+  reads_refused : Refused read_in (drop 9 b) → Refused (reads_in count) (drop 9 b)
   reads_refused h more = first_wrong count (drop 9 b ++ more) least (h more)
 
-  pub reads_short : Short read_in (drop 9 b) longest_read → Short (reads_in count) (drop 9 b) longest_reads
+  reads_short : Short read_in (drop 9 b) longest_read → Short (reads_in count) (drop 9 b) longest_reads
   reads_short h = record { ended = first_short count (drop 9 b) least h.ended; few = omega (arith, h.few) }
 
-module _ (b : List ℕ) (ordinal : ℕ) (p : ReadPlace) (t : ReadTold b 9 (reads.Found p)) where
+  pub reads_unread : (ordinal : ℕ) (e : Unread) → ReadTold b 9 (Err e) → ReadsTold b ordinal count (Err e)
+  reads_unread ordinal unread.Wrong h = reads_refused h
+  reads_unread ordinal unread.More h = reads_short h
+
+-- a second read that is not there
+pub pair_unread : (b : List ℕ) (ordinal : ℕ) (p : ReadPlace) (e : Unread) → ReadTold b p.end (Err e) → PairTold b ordinal p (Err e)
+pair_unread b ordinal p unread.Wrong h = h
+pair_unread b ordinal p unread.More h = h
+
+module _ (b : List ℕ) (ordinal : ℕ) (p : ReadPlace) (t : ReadTold b 9 (Ok p)) where
   pub first_within : p.end ≤ length b
   first_within = t.0.within
 
@@ -96,8 +105,8 @@ module _ (b : List ℕ) (ordinal : ℕ) (p : ReadPlace) (t : ReadTold b 9 (reads
       ∙ behind_parsed (reads_in 1 (drop p.end b ++ more)) (λ rs. parsed (mate_at b p ∷ rs)) (mate_at b d ∷ []) (drop d.end b ++ more)
       (behind_parsed (read_in (drop p.end b ++ more)) (next_read 0) (mate_at b d) (drop d.end b ++ more) (h more))
 
-  two_told_all : (r : FragmentRead) → PairTold b ordinal p r → ReadsTold b ordinal 2 r
-  two_told_all (fragments.Read h) k =
+  two_told_all : (r : Result FragmentHead Unread) → PairTold b ordinal p r → ReadsTold b ordinal 2 r
+  two_told_all (Ok h) k =
       record {
         ordinal = k.ordinal;
         count = k.count;
@@ -110,10 +119,10 @@ module _ (b : List ℕ) (ordinal : ℕ) (p : ReadPlace) (t : ReadTold b 9 (reads
             ∙ ap (λ q. parsed (mate_at b q ∷ mate_at b h.second ∷ []) (drop h.second.end b ++ more)) (sym k.first)
             ∙ ap (λ n. parsed (mate_at b h.first ∷ mate_at b h.second ∷ []) (drop n b ++ more)) (sym k.end);
       }
-  two_told_all fragments.Wrong k = two_refused k
-  two_told_all fragments.More k = two_short k
+  two_told_all (Err unread.Wrong) k = two_refused k
+  two_told_all (Err unread.More) k = two_short k
 
-  pub pair_told : (count : ℕ) → count ≡ 2 → (r : FragmentRead) → PairTold b ordinal p r → ReadsTold b ordinal count r
+  pub pair_told : (count : ℕ) → count ≡ 2 → (r : Result FragmentHead Unread) → PairTold b ordinal p r → ReadsTold b ordinal count r
   pair_told count e r k = rw e (two_told_all r k)
 
 -- ---- the head
@@ -163,8 +172,8 @@ module _ (b : List ℕ) (count ordinal : ℕ) (h : 9 ≤ length b) (ec : count �
               ∙ ap (λ n. parsed (fragment_of ordinal n first second) (drop 9 b ++ more)) (sym z);
         }
 
-    pub fragment_told : (r : FragmentRead) → ReadsTold b ordinal count r → FragmentTold b r
-    fragment_told (fragments.Read f) k = (
+    pub fragment_told : (r : Result FragmentHead Unread) → ReadsTold b ordinal count r → FragmentTold b r
+    fragment_told (Ok f) k = (
       record {
         within = k.within;
         told =
@@ -177,14 +186,9 @@ module _ (b : List ℕ) (count ordinal : ℕ) (h : 9 ≤ length b) (ec : count �
       k.first,
       k.second,
     )
-    fragment_told fragments.Wrong k = λ more. taken more ∙ reads_wrong (drop 9 b ++ more) (k more)
-    fragment_told fragments.More k =
+    fragment_told (Err unread.Wrong) k = λ more. taken more ∙ reads_wrong (drop 9 b ++ more) (k more)
+    fragment_told (Err unread.More) k =
         record {
           ended = here fragment_in (behind count ordinal) b (drop 9 b) taken ∙ reads_lacking (drop 9 b) k.ended;
           few = omega (arith, k.few, length-drop 9 b);
         }
-
--- ---- an answer by its case
-
-pub told_as : (b : List ℕ) (at : ℕ) {r s : ReadFound} → r ≡ s → ReadTold b at r → ReadTold b at s
-told_as b at e t = rw e at t

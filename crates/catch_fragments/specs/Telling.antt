@@ -1,5 +1,7 @@
 -- What the bytes that are there tell of every stream that has a read or a fragment there (REFERENCE.md, "Stream").
-use Rattle.std.specs.Prelude.{◌≡◌, List, ◌++◌, ℕ, ◌-◌, ◌≤◌, length, drop}
+use Rattle.std.specs.Prelude.{◌≡◌, List, ◌++◌, ℕ, ◌-◌, ◌≤◌, length, drop, Result, Ok, Err}
+use Rattle.catch_commands.specs.declared.Unread.{Unread}
+use Rattle.catch_commands.specs.declared.Unread.TheVariants as unread
 use Rattle.lists.specs.Cut.{window}
 use Rattle.audit_model.specs.Observing.{MateRead}
 use Rattle.audit_model.specs.Calls.{mate_of, fragment_reads, fragment_of}
@@ -7,11 +9,7 @@ use Rattle.catch_commands.specs.Operands.{parsed}
 use Rattle.catch_commands.specs.Commands.{read_in, reads_in, fragment_in}
 use Rattle.catch_commands.specs.Telling.{Read, Refused, Short}
 use Rattle.catch_fragments.specs.declared.ReadPlace.{ReadPlace}
-use Rattle.catch_fragments.specs.declared.ReadFound.{ReadFound}
-use Rattle.catch_fragments.specs.declared.ReadFound.TheVariants as reads
 use Rattle.catch_fragments.specs.declared.FragmentHead.{FragmentHead}
-use Rattle.catch_fragments.specs.declared.FragmentRead.{FragmentRead}
-use Rattle.catch_fragments.specs.declared.FragmentRead.TheVariants as fragments
 
 -- a read, with its bases and qualities where they stand
 abbrev pub mate_at : List ℕ → ReadPlace → MateRead
@@ -28,10 +26,10 @@ abbrev pub longest_read : ℕ
 longest_read = 8199
 
 -- a read that begins at a place of the bytes
-abbrev pub ReadTold : List ℕ → ℕ → ReadFound → Type 0
-ReadTold bytes at (reads.Found p) = Placed bytes p × ((more : List ℕ) → read_in (drop at bytes ++ more) ≡ parsed (mate_at bytes p) (drop p.end bytes ++ more))
-ReadTold bytes at reads.Wrong = Refused read_in (drop at bytes)
-ReadTold bytes at reads.More = Short read_in (drop at bytes) longest_read
+abbrev pub ReadTold : List ℕ → ℕ → Result ReadPlace Unread → Type 0
+ReadTold bytes at (Ok p) = Placed bytes p × ((more : List ℕ) → read_in (drop at bytes ++ more) ≡ parsed (mate_at bytes p) (drop p.end bytes ++ more))
+ReadTold bytes at (Err unread.Wrong) = Refused read_in (drop at bytes)
+ReadTold bytes at (Err unread.More) = Short read_in (drop at bytes) longest_read
 
 -- a second read behind the first
 pub record PairFound (bytes : List ℕ) (number : ℕ) (before : ReadPlace) (h : FragmentHead) : Type 0 where
@@ -42,10 +40,10 @@ pub record PairFound (bytes : List ℕ) (number : ℕ) (before : ReadPlace) (h :
   pub end : h.end ≡ h.second.end
   pub told : (more : List ℕ) → read_in (drop before.end bytes ++ more) ≡ parsed (mate_at bytes h.second) (drop h.second.end bytes ++ more)
 
-abbrev pub PairTold : List ℕ → ℕ → ReadPlace → FragmentRead → Type 0
-PairTold bytes ordinal first (fragments.Read h) = PairFound bytes ordinal first h
-PairTold bytes ordinal first fragments.Wrong = Refused read_in (drop first.end bytes)
-PairTold bytes ordinal first fragments.More = Short read_in (drop first.end bytes) longest_read
+abbrev pub PairTold : List ℕ → ℕ → ReadPlace → Result FragmentHead Unread → Type 0
+PairTold bytes ordinal first (Ok h) = PairFound bytes ordinal first h
+PairTold bytes ordinal first (Err unread.Wrong) = Refused read_in (drop first.end bytes)
+PairTold bytes ordinal first (Err unread.More) = Short read_in (drop first.end bytes) longest_read
 
 -- one read or two behind nine bytes
 pub record ReadsFound (bytes : List ℕ) (number reads : ℕ) (h : FragmentHead) : Type 0 where
@@ -60,17 +58,17 @@ pub record ReadsFound (bytes : List ℕ) (number reads : ℕ) (h : FragmentHead)
 abbrev pub longest_reads : ℕ
 longest_reads = 16398
 
-abbrev pub ReadsTold : List ℕ → ℕ → ℕ → FragmentRead → Type 0
-ReadsTold bytes ordinal count (fragments.Read h) = ReadsFound bytes ordinal count h
-ReadsTold bytes ordinal count fragments.Wrong = Refused (reads_in count) (drop 9 bytes)
-ReadsTold bytes ordinal count fragments.More = Short (reads_in count) (drop 9 bytes) longest_reads
+abbrev pub ReadsTold : List ℕ → ℕ → ℕ → Result FragmentHead Unread → Type 0
+ReadsTold bytes ordinal count (Ok h) = ReadsFound bytes ordinal count h
+ReadsTold bytes ordinal count (Err unread.Wrong) = Refused (reads_in count) (drop 9 bytes)
+ReadsTold bytes ordinal count (Err unread.More) = Short (reads_in count) (drop 9 bytes) longest_reads
 
 -- the longest: nine bytes and two reads
 abbrev pub longest_fragment : ℕ
 longest_fragment = 16407
 
-abbrev pub FragmentTold : List ℕ → FragmentRead → Type 0
-FragmentTold bytes (fragments.Read h) =
+abbrev pub FragmentTold : List ℕ → Result FragmentHead Unread → Type 0
+FragmentTold bytes (Ok h) =
     Read fragment_in bytes (fragment_of h.ordinal h.count (mate_at bytes h.first) (mate_at bytes h.second)) h.end × Placed bytes h.first × Placed bytes h.second
-FragmentTold bytes fragments.Wrong = Refused fragment_in bytes
-FragmentTold bytes fragments.More = Short fragment_in bytes longest_fragment
+FragmentTold bytes (Err unread.Wrong) = Refused fragment_in bytes
+FragmentTold bytes (Err unread.More) = Short fragment_in bytes longest_fragment

@@ -7,7 +7,7 @@ ghost use Rattle.catch_fragments.specs.Telling.{ReadTold, PairTold, ReadsTold, F
 
 use audit_codes::role_of;
 use audit_model::settings::MateRole;
-use catch_commands::little_endian;
+use catch_commands::{Unread, little_endian};
 
 // Where a read stands: its bases, and behind them its qualities.
 #[derive(Clone, Copy)]
@@ -19,13 +19,6 @@ pub struct ReadPlace {
     pub end: usize,
 }
 
-#[derive(Clone, Copy)]
-pub enum ReadFound {
-    Found(ReadPlace),
-    Wrong,
-    More,
-}
-
 // A fragment of `count` reads: the second stands for none where there is one, and both where there is none.
 #[derive(Clone, Copy)]
 pub struct FragmentHead {
@@ -34,13 +27,6 @@ pub struct FragmentHead {
     pub first: ReadPlace,
     pub second: ReadPlace,
     pub end: usize,
-}
-
-#[derive(Clone, Copy)]
-pub enum FragmentRead {
-    Read(FragmentHead),
-    Wrong,
-    More,
 }
 
 // Whether a read has a role, a mark and no more bases than 4,096.
@@ -70,32 +56,32 @@ fn quality_count(mark: u8, count: usize) -> usize
 }
 
 // A read with its code, from a place on.
-pub fn read_read(bytes: &[u8], at: usize) -> ReadFound
+pub fn read_read(bytes: &[u8], at: usize) -> Result<ReadPlace, Unread>
     requires { at ≤ length bytes.now }
     ensures { ReadTold bytes.now at result }
 {
     let left = bytes.len() - at;
     if left < 1 {
-        return ReadFound::More;
+        return Err(Unread::More);
     }
     if bytes[at] != 4 {
-        return ReadFound::Wrong;
+        return Err(Unread::Wrong);
     }
     if left < 7 {
-        return ReadFound::More;
+        return Err(Unread::More);
     }
     let role = bytes[at + 1];
     let mark = bytes[at + 2];
     let length = little_endian(&bytes[at + 3..at + 7]);
     if !read_fits(role, mark, length) {
-        return ReadFound::Wrong;
+        return Err(Unread::Wrong);
     }
     let count = length as usize;
     let qualities = quality_count(mark, count);
     if left - 7 < count + qualities {
-        return ReadFound::More;
+        return Err(Unread::More);
     }
-    ReadFound::Found(ReadPlace {
+    Ok(ReadPlace {
         role: role_of(role),
         present: mark == 1,
         from: at + 7,
@@ -105,62 +91,49 @@ pub fn read_read(bytes: &[u8], at: usize) -> ReadFound
 }
 
 // The second read of a pair, behind the first.
-fn read_pair(bytes: &[u8], ordinal: u64, first: ReadPlace) -> FragmentRead
+fn read_pair(bytes: &[u8], ordinal: u64, first: ReadPlace) -> Result<FragmentHead, Unread>
     requires { first.end ≤ length bytes.now }
     ensures { PairTold bytes.now ordinal first result }
 {
-    let at = first.end;
-    match read_read(bytes, at) {
-        ReadFound::Found(second) => {
-            let end = second.end;
-            FragmentRead::Read(FragmentHead {
-                ordinal,
-                count: 2,
-                first,
-                second,
-                end,
-            })
-        }
-        ReadFound::Wrong => FragmentRead::Wrong,
-        ReadFound::More => FragmentRead::More,
-    }
+    let second = read_read(bytes, first.end)?;
+    Ok(FragmentHead {
+        ordinal,
+        count: 2,
+        first,
+        second,
+        end: second.end,
+    })
 }
 
 // One read or two, behind nine bytes.
-fn read_reads(bytes: &[u8], ordinal: u64, count: usize) -> FragmentRead
+fn read_reads(bytes: &[u8], ordinal: u64, count: usize) -> Result<FragmentHead, Unread>
     requires { (9 ≤ length bytes.now) × (1 ≤ count) × (count ≤ 2) }
     ensures { ReadsTold bytes.now ordinal count result }
 {
-    match read_read(bytes, 9) {
-        ReadFound::Found(first) => {
-            if count == 2 {
-                return read_pair(bytes, ordinal, first);
-            }
-            let end = first.end;
-            FragmentRead::Read(FragmentHead {
-                ordinal,
-                count,
-                first,
-                second: first,
-                end,
-            })
-        }
-        ReadFound::Wrong => FragmentRead::Wrong,
-        ReadFound::More => FragmentRead::More,
+    let first = read_read(bytes, 9)?;
+    if count == 2 {
+        return read_pair(bytes, ordinal, first);
     }
+    Ok(FragmentHead {
+        ordinal,
+        count,
+        first,
+        second: first,
+        end: first.end,
+    })
 }
 
 // A whole fragment, behind 03.
-pub fn read_fragment(bytes: &[u8]) -> FragmentRead
+pub fn read_fragment(bytes: &[u8]) -> Result<FragmentHead, Unread>
     ensures { FragmentTold bytes.now result }
 {
     if bytes.len() < 9 {
-        return FragmentRead::More;
+        return Err(Unread::More);
     }
     let ordinal = little_endian(&bytes[0..8]);
     let count = bytes[8] as usize;
     if 2 < count {
-        return FragmentRead::Wrong;
+        return Err(Unread::Wrong);
     }
     if count == 0 {
         let none = ReadPlace {
@@ -170,7 +143,7 @@ pub fn read_fragment(bytes: &[u8]) -> FragmentRead
             middle: 9,
             end: 9,
         };
-        return FragmentRead::Read(FragmentHead {
+        return Ok(FragmentHead {
             ordinal,
             count,
             first: none,

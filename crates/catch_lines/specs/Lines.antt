@@ -1,5 +1,5 @@
 -- The lines of `catch` (REFERENCE.md, "Lines").
-use Rattle.std.specs.Prelude.{List, [], ◌∷◌, ◌++◌, ℕ, zero, suc, get_or, drop}
+use Rattle.std.specs.Prelude.{List, [], ◌∷◌, ◌++◌, ℕ}
 use Rattle.catch_text.specs.Text.{text, decimal, line}
 use Rattle.map_answers.specs.Answer.{Row}
 use Rattle.audit_model.specs.declared.sheet.Shown.{Shown}

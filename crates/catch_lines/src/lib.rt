@@ -2,6 +2,7 @@
 #![tactic(auto)]
 
 ghost use Rattle.std.specs.Prelude.{◌+◌, ◌≤◌, length};
+ghost use Rattle.promises.specs.Refusal.{refusal_number};
 ghost use Rattle.audit_model.specs.Settings.{role_number};
 ghost use Rattle.audit_model.specs.Calls.{mapping_row};
 ghost use Rattle.catch_lines.specs.Lines.{line_room, refusal_line, read_line, group_line, count_line, target_line, run_line};
@@ -12,14 +13,15 @@ use audit_model::sheet::Shown;
 use catch_fields::{put_places, put_role, put_status, put_strand, put_totals};
 use catch_text::{put_bytes, put_decimal};
 use map_answers::answer::{Mapping, state_number};
+use promises::refusal::Refusal;
 
 // E number.
-pub fn put_refusal(out: &mut [u8], at: usize, number: u64) -> usize
+pub fn put_refusal(out: &mut [u8], at: usize, refusal: Refusal) -> usize
     requires { at + line_room ≤ length out.old }
-    ensures { AddsAtMost line_room (refusal_line number) out.old at out.new result }
+    ensures { AddsAtMost line_room (refusal_line (refusal_number refusal)) out.old at out.new result }
 {
     let a = put_bytes(out, at, b"E ");
-    let b = put_decimal(out, a, number);
+    let b = put_decimal(out, a, refusal.number());
     put_bytes(out, b, b"\n")
 }
 

@@ -1,4 +1,6 @@
 -- The opening of a job: as by the index, which is that of its targets.
+use Rattle.std.specs.Prelude.{Result, Ok, Err}
+use Rattle.promises.specs.declared.refusal.Refusal.{Refusal}
 use mathlib.Core.Path.{◌≡◌, refl, sym, ap, ◌∙◌}
 use mathlib.Core.Bool.{true}
 use mathlib.Core.List.{List, [], ◌∷◌}
@@ -7,11 +9,10 @@ use native.Mathlib.Omega.{arith}
 use lib.ListN.{length, take, length-map}
 use borrow.Author.Tests.{eq-eqb}
 use Rattle.lists.specs.Same.{same}
+use Rattle.promises.specs.Refusal.{refusal_number}
 use Rattle.promises.proofs.Refusing.{outcome_number}
 use Rattle.catalogue.specs.Catalogue.{Catalogue, mapped, max_targets}
 use Rattle.catalogue.specs.Ranking.{ranking_outcome}
-use Rattle.catalogue.specs.declared.ranks.Ranking.{Ranking}
-use Rattle.catalogue.specs.declared.ranks.Ranking.TheVariants.{Refused, Ranked}
 use Rattle.index_seeds.specs.Key.{SeedLength}
 use Rattle.buffers.specs.Placed.{placed}
 use Rattle.index_seeds.specs.Seeds.{keys_of, ranks_of, positions_of, Stored, Room}
@@ -29,7 +30,6 @@ use Rattle.audit_checks.proofs.Ranked.{unrefused, planned}
 use Rattle.catch_model.specs.Job.{lent_of}
 use Rattle.catch_model.proofs.Sizes.{index_few}
 use Rattle.catch_opening.specs.Opened.{JobRoom, JobOpens}
-use Rattle.catch_opening.specs.declared.JobOpening.TheVariants as openings
 
 -- ---- the index of the targets is right
 
@@ -49,13 +49,13 @@ front n l b b' e f = rw f (ap (λ m. take m (placed 0 l b)) (sym e) ∙ placed_t
 audit_seed_lem : SeedLength audit_seed
 audit_seed_lem = record { some = omega arith; most = omega arith }
 
-module _ (c : Catalogue) (s : Settings) (k : Counters) (r : Ranking) (ranked : List ℕ) (p : OpeningRanked audit_seed audit_offset c none s k r ranked) where
-  pub job_refused : (n : ℕ) → r ≡ Refused n → (ks rs os : List ℕ) → JobOpens c s k (openings.Refused n) ranked ks rs os
-  job_refused n told ks rs os =
-      let w = outcome_number (opening_refusal audit_seed audit_offset c none s k) n (length (mapped c)) (sym p.answer ∙ ap ranking_outcome told) in
+module _ (c : Catalogue) (s : Settings) (k : Counters) (r : Result ℕ Refusal) (ranked : List ℕ) (p : OpeningRanked audit_seed audit_offset c none s k r ranked) where
+  pub job_refused : (e : Refusal) → r ≡ Err e → (ks rs os : List ℕ) → JobOpens c s k (Err e) ranked ks rs os
+  job_refused e told ks rs os =
+      let w = outcome_number (opening_refusal audit_seed audit_offset c none s k) (refusal_number e) (length (mapped c)) (sym p.answer ∙ ap ranking_outcome told) in
       (plain_opening c s k ∙ w.0, w.1)
 
-  module _ (n : ℕ) (told : r ≡ Ranked n) where
+  module _ (n : ℕ) (told : r ≡ Ok n) where
     plan : PlanRanked audit_seed c r ranked
     plan = planned audit_seed audit_offset c none s k r ranked p n told audit_seed_lem
 
@@ -86,7 +86,7 @@ module _ (c : Catalogue) (s : Settings) (k : Counters) (r : Ranking) (ranked : L
         record { keys = omega (arith, e, m, room.keys); ranks = omega (arith, e, m, room.ranks); positions = omega (arith, e, m, room.positions) }
 
     pub job_opened : (m : ℕ) → m ≡ length (all_seeds audit_seed 0 ss) → (ks rs os ks' rs' os' : List ℕ) → Stored 0 (index_of audit_seed ss) ks rs os ks' rs' os'
-        → JobOpens c s k (openings.Opened (record { ranked = n; postings = m })) ranked ks' rs' os'
+        → JobOpens c s k (Ok (record { ranked = n; postings = m })) ranked ks' rs' os'
     job_opened m e ks rs os ks' rs' os' stored = (
       plain_opening c s k ∙ unrefused audit_seed audit_offset c none s k r ranked p n told,
       record {

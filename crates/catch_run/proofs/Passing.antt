@@ -1,4 +1,5 @@
 -- Where the opening's checks pass, a fragment is lent what it needs, and they pass behind it.
+use Rattle.std.specs.Prelude.{Ok}
 use mathlib.Core.Path.{◌≡◌, refl, sym, ap, subst, ◌∙◌}
 use mathlib.Core.Bool.{true}
 use mathlib.Core.List.{List}
@@ -11,7 +12,6 @@ use Rattle.lists.specs.Sort.{sort}
 use Rattle.lists.proofs.Filter.{length_filter}
 use Rattle.lists.proofs.Sort.{length_sort}
 use Rattle.catalogue.specs.Catalogue.{Catalogue, Target, targets, is_mapped, by_name, mapped, supplied_places, max_targets, in_bounds}
-use Rattle.catalogue.specs.declared.ranks.Ranking.TheVariants.{Ranked}
 use Rattle.catalogue.proofs.Checks.{bounded}
 use Rattle.catalogue.proofs.Mapped.{target_count}
 use Rattle.index_seeds.specs.Key.{SeedLength}
@@ -79,7 +79,7 @@ module _ (c : Catalogue) (ranked ks rs os : List ℕ) (h : Held) (entries : List
   whole : take many ranked ≡ ranked
   whole = take-length ranked
 
-  opening_ranked : OpeningRanked audit_seed audit_offset c (columns ks rs os) h.state.settings h.counters (Ranked many) ranked
+  opening_ranked : OpeningRanked audit_seed audit_offset c (columns ks rs os) h.state.settings h.counters (Ok many) ranked
   opening_ranked =
       let none : opening_refusal audit_seed audit_offset c (columns ks rs os) h.state.settings h.counters ≡ 0 = rw lent.index lent.passes in
       let n : many ≡ length (mapped c) = ap length lent.places ∙ length-map (mapped c) (λ (t : Target). t.place) in
@@ -92,12 +92,12 @@ module _ (c : Catalogue) (ranked ks rs os : List ℕ) (h : Held) (entries : List
       omega (arith, ap length lent.places, m, length_sort by_name (filter is_mapped (targets c)), length_filter is_mapped (targets c), count_is c h lent.passes, lent.few)
 
   pub lent_tested : Tested true audit_seed c.bases c.base_ends ranked ks rs os h.state.settings h.counters
-  lent_tested = subst (λ l. Tested true audit_seed c.bases c.base_ends l ks rs os h.state.settings h.counters) whole (tested audit_seed audit_offset c true ks rs os h.state.settings h.counters (Ranked many) ranked opening_ranked audit_seed_lem many refl few_ranked)
+  lent_tested = subst (λ l. Tested true audit_seed c.bases c.base_ends l ks rs os h.state.settings h.counters) whole (tested audit_seed audit_offset c true ks rs os h.state.settings h.counters (Ok many) ranked opening_ranked audit_seed_lem many refl few_ranked)
 
   -- and what it leaves is what a fragment call leaves
   pub lent-audited : (f : Fragment) (a : FragmentAudit) (k' : Counters) (entries' : List ℕ) → TestedAudited audit_offset (ranked_sequences c.bases c.base_ends ranked) (by_index audit_seed) ranked h f a k' entries entries'
       → Audits audit_seed audit_offset c (lent_of c) h f entries a k' entries'
   lent-audited f a k' entries' t =
       subst (λ i. Audits audit_seed audit_offset c i h f entries a k' entries') lent.index
-      (opening_passes audit_seed audit_offset c true ks rs os h f entries (Ranked many) ranked opening_ranked audit_seed_lem many refl a k' entries'
+      (opening_passes audit_seed audit_offset c true ks rs os h f entries (Ok many) ranked opening_ranked audit_seed_lem many refl a k' entries'
       (subst (λ l. TestedAudited audit_offset (ranked_sequences c.bases c.base_ends l) (by_index audit_seed) l h f a k' entries entries') (sym whole) t))

@@ -1,10 +1,12 @@
 -- What a step of a job that was opened does: a fragment, or the end.
+use Rattle.std.specs.Prelude.{Result, Ok, Err}
+use Rattle.promises.specs.declared.refusal.Refusal.{Refusal}
 use mathlib.Core.Path.{◌≡◌, sym, ap, ap₂, subst, subst₂, ◌∙◌}
 use mathlib.Core.List.{List, [], ◌∷◌, ◌++◌, map, append-nil}
 use Prim.Native.Nat.{ℕ, zero, suc, ◌+◌, ◌*◌, ◌≤◌}
 use native.Mathlib.Omega.{arith}
 use lib.ListN.{length, drop}
-use Rattle.promises.specs.Refusal.{Outcome, refused, accepted, if_passed}
+use Rattle.promises.specs.Refusal.{refusal_number, Outcome, refused, accepted, if_passed}
 use Rattle.promises.proofs.Refusing.{outcome_accepted, outcome_number}
 use Rattle.catalogue.specs.Catalogue.{Catalogue, names, supplied_places}
 use Rattle.index_model.specs.Index.{mapped_sequences}
@@ -14,8 +16,8 @@ use Rattle.lists.specs.Cut.{window}
 use Rattle.map_every_start.specs.Entries.{entry_count, cleared}
 use Rattle.map_answers.specs.Answer.{Row}
 use Rattle.audit_ledger.specs.Booking.{Counters}
-use Rattle.audit_model.specs.declared.calls.FragmentAnswer.{FragmentAnswer}
-use Rattle.audit_model.specs.declared.calls.FragmentAnswer.TheVariants as fragments
+use Rattle.audit_model.specs.declared.calls.FragmentRows.{FragmentRows}
+use Rattle.audit_model.specs.declared.calls.FragmentRows.TheVariants as fragments
 use Rattle.audit_model.specs.declared.calls.FragmentAudit.{FragmentAudit}
 use Rattle.audit_model.specs.declared.settings.Settings.{Settings}
 use Rattle.audit_model.specs.Opening.{way_of}
@@ -74,22 +76,22 @@ module _ (offset : ℕ) (c : Catalogue) (s : Settings) (way : Way) (ordinal widt
       (part_lines ns (supplied_places c) (length m.read.bases) (observed_listed s (mapped_sequences c) (observe offset s m)) width (drop from entries) _ part)
 
   -- the lines of an answer are those of the reads that it answers for
-  accepted_lines : (first second : MateRead) (count : ℕ) (answer : FragmentAnswer) → fragment_outcome answer ≡ accepted (map row_of (fragment_reads count first second))
+  accepted_lines : (first second : MateRead) (count : ℕ) (answer : Result FragmentRows Refusal) → fragment_outcome answer ≡ accepted (map row_of (fragment_reads count first second))
       → Short width (map entries_in (fragment_reads count first second)) → InParts cleared width 0 (map entries_in (fragment_reads count first second)) before entries
       → answer_lines ns ordinal (role_number first.role) (role_number second.role) width answer entries ≡ fragment_lines offset c s way ordinal (fragment_reads count first second)
-  accepted_lines first second count (fragments.Refused n) e fits parts = absurd (let z : ◌≡◌ {A = ℕ} 0 1 = cc in omega arith)
-  accepted_lines first second zero (fragments.Single m) e fits parts = absurd (let z = ap (λ o. length (rows_in o)) e in omega arith)
-  accepted_lines first second (suc zero) (fragments.Single m) e fits parts =
+  accepted_lines first second count (Err n) e fits parts = absurd (let z : ◌≡◌ {A = ℕ} 0 1 = cc in omega arith)
+  accepted_lines first second zero (Ok (fragments.Single m)) e fits parts = absurd (let z = ap (λ o. length (rows_in o)) e in omega arith)
+  accepted_lines first second (suc zero) (Ok (fragments.Single m)) e fits parts =
       ap (λ r. read_told ns ordinal (role_number first.role) r entries) (ap (λ o. first_or (mapping_row m) (rows_in o)) e) ∙ read_lines_lem first 0 fits.0 parts.0 ∙ sym (append-nil _)
-  accepted_lines first second (suc (suc n)) (fragments.Single m) e fits parts = absurd (let z = ap (λ o. length (rows_in o)) e in omega arith)
-  accepted_lines first second zero (fragments.Paired m) e fits parts = absurd (let z = ap (λ o. length (rows_in o)) e in omega arith)
-  accepted_lines first second (suc zero) (fragments.Paired m) e fits parts = absurd (let z = ap (λ o. length (rows_in o)) e in omega arith)
-  accepted_lines first second (suc (suc zero)) (fragments.Paired m) e fits parts =
+  accepted_lines first second (suc (suc n)) (Ok (fragments.Single m)) e fits parts = absurd (let z = ap (λ o. length (rows_in o)) e in omega arith)
+  accepted_lines first second zero (Ok (fragments.Paired m)) e fits parts = absurd (let z = ap (λ o. length (rows_in o)) e in omega arith)
+  accepted_lines first second (suc zero) (Ok (fragments.Paired m)) e fits parts = absurd (let z = ap (λ o. length (rows_in o)) e in omega arith)
+  accepted_lines first second (suc (suc zero)) (Ok (fragments.Paired m)) e fits parts =
       let behind : 0 + width ≡ width = omega arith in
       ap₂ (λ a b. a ++ b)
       (ap (λ r. read_told ns ordinal (role_number first.role) r entries) (ap (λ o. first_or (mapping_row m.first) (rows_in o)) e) ∙ read_lines_lem first 0 fits.0 parts.0)
       (ap (λ r. read_told ns ordinal (role_number second.role) r (drop width entries)) (ap (λ o. first_or (mapping_row m.second) (others (rows_in o))) e) ∙ read_lines_lem second width fits.1.0 (subst (λ n. window entries n width ≡ placed 0 (entries_in second) (cleared (window before n width))) behind parts.1.0) ∙ sym (append-nil _))
-  accepted_lines first second (suc (suc (suc n))) (fragments.Paired m) e fits parts = absurd (let z = ap (λ o. length (rows_in o)) e in omega arith)
+  accepted_lines first second (suc (suc (suc n))) (Ok (fragments.Paired m)) e fits parts = absurd (let z = ap (λ o. length (rows_in o)) e in omega arith)
 
 count_of : (n : ℕ) (b : List ℕ) → length b ≡ 4 * n → entry_count b ≡ n
 count_of n b e = omega (arith, e)
@@ -113,10 +115,10 @@ module _ (c : Catalogue) (ranked ks rs os : List ℕ) (h : Held) (entries : List
   refusal_is = ap (fragment_refusal audit_seed audit_offset c (lent_of c) h f) (count_of stream_entries entries lent.whole)
 
   -- refused, nothing changes
-  pub fragment_refuses : (n : ℕ) → a.answer ≡ fragments.Refused n → Ends (running c h) (3 ∷ bytes) (refusal_line n) × (after ≡ h)
-  fragment_refuses n told =
-      let w = outcome_number (fragment_refusal audit_seed audit_offset c (lent_of c) h f (entry_count entries)) n _ (sym audits.answer ∙ ap fragment_outcome told) in (
-        fragment_refused c h bytes f head.end read n (sym refusal_is ∙ w.0) w.1,
+  pub fragment_refuses : (e : Refusal) → a.answer ≡ Err e → Ends (running c h) (3 ∷ bytes) (refusal_line (refusal_number e)) × (after ≡ h)
+  fragment_refuses e told =
+      let w = outcome_number (fragment_refusal audit_seed audit_offset c (lent_of c) h f (entry_count entries)) (refusal_number e) _ (sym audits.answer ∙ ap fragment_outcome told) in (
+        fragment_refused c h bytes f head.end read (refusal_number e) (sym refusal_is ∙ w.0) w.1,
         audits.held ∙ refused_holds (fragment_refusal audit_seed audit_offset c (lent_of c) h f (entry_count entries)) (λ z. w.1 (sym w.0 ∙ z)) (fragment_accepted audit_offset c h f) h,
       )
 

@@ -1,4 +1,8 @@
 -- Each step of a job that was opened, as its function has it.
+use Rattle.std.specs.Prelude.{Result, Ok, Err}
+use Rattle.catch_commands.specs.declared.Unread.{Unread}
+use Rattle.catch_commands.specs.declared.Unread.TheVariants as unread
+use Rattle.promises.specs.declared.refusal.Refusal.{Refusal}
 use mathlib.Core.Path.{◌≡◌, refl, sym, ap, subst, subst₂, ◌∙◌}
 use mathlib.Core.Bool.{Bool, true, false}
 use mathlib.Core.List.{List, [], ◌∷◌}
@@ -11,8 +15,8 @@ use Rattle.catalogue.proofs.Checks.{bounded}
 use Rattle.index_model.specs.Index.{ranked_sequences}
 use Rattle.map_answers.specs.Answer.{Row}
 use Rattle.audit_ledger.specs.Booking.{Counters}
-use Rattle.audit_model.specs.declared.calls.FragmentAnswer.{FragmentAnswer}
-use Rattle.audit_model.specs.declared.calls.FragmentAnswer.TheVariants as fragments
+use Rattle.audit_model.specs.declared.calls.FragmentRows.{FragmentRows}
+use Rattle.audit_model.specs.declared.calls.FragmentRows.TheVariants as fragments
 use Rattle.audit_model.specs.declared.calls.Finish.{Finish}
 use Rattle.audit_model.specs.Settings.{Held, audit_seed, audit_offset}
 use Rattle.audit_model.specs.Calls.{fragment_outcome, mapping_row, Audits}
@@ -25,8 +29,6 @@ use Rattle.audit_finish.specs.Tested.{FinishesTested}
 use Rattle.catch_finish_lines.specs.Finish.{finish_lines}
 use Rattle.catch_finish_lines.proofs.Finishing.{finish_told}
 use Rattle.catch_fragments.specs.declared.FragmentHead.{FragmentHead}
-use Rattle.catch_fragments.specs.declared.FragmentRead.{FragmentRead}
-use Rattle.catch_fragments.specs.declared.FragmentRead.TheVariants as reads
 use Rattle.catch_fragments.specs.Telling.{longest_fragment, FragmentTold}
 use Rattle.catch_fragments.proofs.Longest.{fragment_longest}
 use Rattle.catch_model.specs.Job.{lent_of, running}
@@ -61,14 +63,12 @@ module _ (c : Catalogue) (ranked ks rs os : List ℕ) (h : Held) (entries : List
   ran_refused : (first : List ℕ) (number : ℕ) (a : Advance) → Refuses number out at out' a → Ends (running c h) first (refusal_line number) → Ran ended c h first out at out' (record { advance = a; state = h.state }) h.counters
   ran_refused first number a f e = record { advances = refuses (running c h) (running c h) first out at out' a ended number f e; still_passes = lent.passes }
 
-  module _ (x : FragmentRead) (told : FragmentTold bytes x) where
-    pub fragment_wrong_ran : x ≡ reads.Wrong → (a : Advance) → Refuses 20 out at out' a → Ran ended c h (3 ∷ bytes) out at out' (record { advance = a; state = h.state }) h.counters
-    fragment_wrong_ran e a f = ran_refused (3 ∷ bytes) 20 a f (fragment_wrong c h bytes (subst (FragmentTold bytes) e told))
+  pub fragment_wrong_ran : FragmentTold bytes (Err unread.Wrong) → (a : Advance) → Refuses 20 out at out' a → Ran ended c h (3 ∷ bytes) out at out' (record { advance = a; state = h.state }) h.counters
+  fragment_wrong_ran w a f = ran_refused (3 ∷ bytes) 20 a f (fragment_wrong c h bytes w)
 
-    pub fragment_short_ran : x ≡ reads.More → (a : Advance) → Stays ended out at out' a → Ran ended c h (3 ∷ bytes) out at out' (record { advance = a; state = h.state }) h.counters
-    fragment_short_ran e a s =
-        let w : Short fragment_in bytes longest_fragment = subst (FragmentTold bytes) e told in
-        record { advances = stays (running c h) (3 ∷ bytes) out at out' a (omega (arith, w.few)) ended s (fragment_lacks c h bytes w.ended) (fragment_short c h bytes w.ended); still_passes = lent.passes }
+  pub fragment_short_ran : FragmentTold bytes (Err unread.More) → (a : Advance) → Stays ended out at out' a → Ran ended c h (3 ∷ bytes) out at out' (record { advance = a; state = h.state }) h.counters
+  fragment_short_ran w a s =
+      record { advances = stays (running c h) (3 ∷ bytes) out at out' a (omega (arith, w.few)) ended s (fragment_lacks c h bytes w.ended) (fragment_short c h bytes w.ended); still_passes = lent.passes }
 
   -- neither 03 nor 05
   pub other_ran : (code : ℕ) → (code ≡ 3 → ⊥) → (code ≡ 5 → ⊥) → (a : Advance) → Refuses 20 out at out' a → Ran ended c h (code ∷ bytes) out at out' (record { advance = a; state = h.state }) h.counters
@@ -111,10 +111,7 @@ module _ (c : Catalogue) (ranked ks rs os : List ℕ) (h : Held) (entries : List
 
   -- ---- a fragment
 
-  module _ (x : FragmentRead) (told : FragmentTold bytes x) (head : FragmentHead) (e : x ≡ reads.Read head) where
-    read : FragmentTold bytes (reads.Read head)
-    read = subst (FragmentTold bytes) e told
-
+  module _ (head : FragmentHead) (read : FragmentTold bytes (Ok head)) where
     -- its bytes can be counted
     pub end_most : head.end ≤ longest_fragment
     end_most = fragment_longest bytes (fragment_at bytes head) head.end read.0
@@ -156,11 +153,11 @@ module _ (c : Catalogue) (ranked ks rs os : List ℕ) (h : Held) (entries : List
           size : n ≡ suc head.end
           size = omega (arith, m)
 
-          go : (x : FragmentAnswer) → t.audit.answer ≡ x → Ran ended c h (3 ∷ bytes) out at out' (record { advance = record { at = t.end; progress = p }; state = t.audit.state }) k
-          go (fragments.Single x) a = ran_accepted (mapping_row x ∷ []) (ap fragment_outcome a) p (q ∙ ap (λ y. progress_of y n) a ∙ ap progress.Went size)
-          go (fragments.Paired x) a = ran_accepted (mapping_row x.first ∷ mapping_row x.second ∷ []) (ap fragment_outcome a) p (q ∙ ap (λ y. progress_of y n) a ∙ ap progress.Went size)
-          go (fragments.Refused number) a =
-              let w = fragment_refuses c ranked ks rs os h entries lent bytes head read.0 t.audit k entries' audits number a in
+          go : (x : Result FragmentRows Refusal) → t.audit.answer ≡ x → Ran ended c h (3 ∷ bytes) out at out' (record { advance = record { at = t.end; progress = p }; state = t.audit.state }) k
+          go (Ok (fragments.Single x)) a = ran_accepted (mapping_row x ∷ []) (ap fragment_outcome a) p (q ∙ ap (λ y. progress_of y n) a ∙ ap progress.Went size)
+          go (Ok (fragments.Paired x)) a = ran_accepted (mapping_row x.first ∷ mapping_row x.second ∷ []) (ap fragment_outcome a) p (q ∙ ap (λ y. progress_of y n) a ∙ ap progress.Went size)
+          go (Err e) a =
+              let w = fragment_refuses c ranked ks rs os h entries lent bytes head read.0 t.audit k entries' audits e a in
               let ends : Ends (running c h) (3 ∷ bytes) text = rw a w.0 in
               record {
                 advances = record { text = text; adds = tells.adds; told = subst (λ x. Tells ended (running c h) (3 ∷ bytes) x text (running c after)) (sym (q ∙ ap (λ y. progress_of y n) a)) (ends_told (running c h) (running c after) (3 ∷ bytes) ended text ends) };

@@ -1,9 +1,9 @@
 -- A step of a job that was opened (REFERENCE.md, "Stream").
-use Rattle.std.specs.Prelude.{◌≡◌, Bool, List, ℕ, ◌*◌, ◌≤◌, length}
+use Rattle.std.specs.Prelude.{◌≡◌, Bool, List, ℕ, ◌*◌, ◌≤◌, length, Result, Ok, Err}
+use Rattle.promises.specs.declared.refusal.Refusal.{Refusal}
 use Rattle.catalogue.specs.Catalogue.{Catalogue, supplied_places}
 use Rattle.audit_ledger.specs.Booking.{Counters}
-use Rattle.audit_model.specs.declared.calls.FragmentAnswer.{FragmentAnswer}
-use Rattle.audit_model.specs.declared.calls.FragmentAnswer.TheVariants as fragments
+use Rattle.audit_model.specs.declared.calls.FragmentRows.{FragmentRows}
 use Rattle.audit_model.specs.Settings.{Held, audit_seed, audit_offset}
 use Rattle.audit_model.specs.Opening.{columns, opening_refusal}
 use Rattle.catch_commands.specs.Commands.{max_stream_targets}
@@ -18,10 +18,9 @@ abbrev pub catalogue_of : List ℕ → List ℕ → List ℕ → List ℕ → Li
 catalogue_of is ies bs bes ms = record { identifiers = is; identifier_ends = ies; bases = bs; base_ends = bes; marks = ms }
 
 -- a fragment of n bytes was audited, or its refusal is the end
-abbrev pub progress_of : FragmentAnswer → ℕ → Progress
-progress_of (fragments.Refused number) n = progress.Ended
-progress_of (fragments.Single m) n = progress.Went n
-progress_of (fragments.Paired m) n = progress.Went n
+abbrev pub progress_of : Result FragmentRows Refusal → ℕ → Progress
+progress_of (Ok rows) n = progress.Went n
+progress_of (Err e) n = progress.Ended
 
 -- the opening's checks pass
 abbrev pub Passes : Catalogue → Held → Type 0

@@ -2,20 +2,26 @@
 #![tactic(auto)]
 
 ghost use Rattle.std.specs.Prelude.{◌≡◌, ◌∷◌, ◌+◌, ◌≤◌, length};
-ghost use Rattle.catalogue.specs.Catalogue.{lent_catalogue};
+ghost use Rattle.catalogue.specs.Catalogue.{catalogue_in};
 ghost use Rattle.audit_ledger.specs.Booking.{left_counters};
 ghost use Rattle.audit_model.specs.Calls.{held_of, lent_held};
 ghost use Rattle.catch_advance.specs.Advancing.{step_room};
 ghost use Rattle.catch_run.specs.Running.{catalogue_of, progress_of, Runs, Ran};
 
 use audit_finish::finish_tested;
-use audit_model::calls::FragmentAnswer;
+use audit_ledger::LentCounters;
+use audit_model::calls::FragmentRows;
 use audit_model::settings::AuditState;
+use catalogue::lent::LentCatalogue;
 use catch_advance::{Advance, refuse, wait, wait_or_refuse};
+use catch_commands::Unread;
 use catch_finish_lines::put_finish;
 use catch_fragment::tell_fragment;
-use catch_fragments::{FragmentRead, read_fragment};
+use catch_fragments::read_fragment;
 use catch_progress::Progress;
+use index_columns::LentIndex;
+use index_model::ranked::RankedTargets;
+use promises::refusal::Refusal;
 
 // How far the step went, and the state of the audit.
 #[derive(Clone, Copy)]
@@ -25,13 +31,12 @@ pub struct RunStep {
 }
 
 // A refusal is the last step.
-fn progress_of(answer: FragmentAnswer, n: usize) -> Progress
+fn progress_of(answer: Result<FragmentRows, Refusal>, n: usize) -> Progress
     ensures { result ≡ progress_of answer n }
 {
     match answer {
-        FragmentAnswer::Refused(number) => Progress::Ended,
-        FragmentAnswer::Single(mapping) => Progress::Went(n),
-        FragmentAnswer::Paired(mates) => Progress::Went(n),
+        Ok(rows) => Progress::Went(n),
+        Err(refusal) => Progress::Ended,
     }
 }
 
@@ -42,35 +47,29 @@ fn run_fragment(
     placements: &mut [u64],
     singles: &mut [u64],
     multi: &mut [u64],
-    keys: &[u64],
-    ranks: &[u64],
-    positions: &[u64],
-    identifiers: &[u8],
-    identifier_ends: &[usize],
-    bases: &[u8],
-    base_ends: &[usize],
-    marks: &[u8],
+    index: LentIndex<'_>,
+    catalogue: LentCatalogue<'_>,
     ranked: &[usize],
     at: usize,
     bytes: &[u8],
     ended: bool,
     state: AuditState,
 ) -> RunStep
-    requires { Runs (catalogue_of identifiers.now identifier_ends.now bases.now base_ends.now marks.now) ranked.now keys.now ranks.now positions.now
+    requires { Runs (catalogue_of catalogue.identifiers.now catalogue.identifier_ends.now catalogue.bases.now catalogue.base_ends.now catalogue.marks.now) ranked.now index.keys.now index.ranks.now index.positions.now
         (held_of state placements.old singles.old multi.old) entries.old × (at + step_room ≤ length out.old) }
-    ensures { Ran ended (lent_catalogue identifiers.now identifier_ends.now bases.now base_ends.now marks.now) (lent_held state placements.old singles.old multi.old) (3 ∷ bytes.now) out.old at out.new result
+    ensures { Ran ended (catalogue_in catalogue.entry) (lent_held state placements.old singles.old multi.old) (3 ∷ bytes.now) out.old at out.new result
         (left_counters placements.new singles.new multi.new) }
 {
     match read_fragment(bytes) {
-        FragmentRead::Wrong => RunStep {
-            advance: refuse(out, at, 20),
+        Err(Unread::Wrong) => RunStep {
+            advance: refuse(out, at, Refusal::JobStream),
             state,
         },
-        FragmentRead::More => RunStep {
+        Err(Unread::More) => RunStep {
             advance: wait_or_refuse(out, at, ended),
             state,
         },
-        FragmentRead::Read(head) => {
+        Ok(head) => {
             let n = 1 + head.end;
             let told = tell_fragment(
                 out,
@@ -78,29 +77,26 @@ fn run_fragment(
                 placements,
                 singles,
                 multi,
-                keys,
-                ranks,
-                positions,
-                identifiers,
-                identifier_ends,
-                bases,
-                base_ends,
-                ranked,
+                index,
+                catalogue.identifiers,
+                catalogue.identifier_ends,
+                RankedTargets {
+                    bases: catalogue.bases,
+                    ends: catalogue.base_ends,
+                    ranked,
+                },
                 at,
                 bytes,
                 head,
                 state,
             );
             let audit = told.audit;
-            let answer = audit.answer;
-            let booked = audit.state;
-            let progress = progress_of(answer, n);
             RunStep {
                 advance: Advance {
                     at: told.end,
-                    progress,
+                    progress: progress_of(audit.answer, n),
                 },
-                state: booked,
+                state: audit.state,
             }
         }
     }
@@ -113,14 +109,8 @@ pub fn run(
     placements: &mut [u64],
     singles: &mut [u64],
     multi: &mut [u64],
-    keys: &[u64],
-    ranks: &[u64],
-    positions: &[u64],
-    identifiers: &[u8],
-    identifier_ends: &[usize],
-    bases: &[u8],
-    base_ends: &[usize],
-    marks: &[u8],
+    index: LentIndex<'_>,
+    catalogue: LentCatalogue<'_>,
     ranked: &[usize],
     at: usize,
     code: u8,
@@ -128,56 +118,43 @@ pub fn run(
     ended: bool,
     state: AuditState,
 ) -> RunStep
-    requires { Runs (catalogue_of identifiers.now identifier_ends.now bases.now base_ends.now marks.now) ranked.now keys.now ranks.now positions.now
+    requires { Runs (catalogue_of catalogue.identifiers.now catalogue.identifier_ends.now catalogue.bases.now catalogue.base_ends.now catalogue.marks.now) ranked.now index.keys.now index.ranks.now index.positions.now
         (held_of state placements.old singles.old multi.old) entries.old × (at + step_room ≤ length out.old) }
-    ensures { Ran ended (lent_catalogue identifiers.now identifier_ends.now bases.now base_ends.now marks.now) (lent_held state placements.old singles.old multi.old) (code ∷ bytes.now) out.old at out.new result
+    ensures { Ran ended (catalogue_in catalogue.entry) (lent_held state placements.old singles.old multi.old) (code ∷ bytes.now) out.old at out.new result
         (left_counters placements.new singles.new multi.new) }
 {
     if code == 3 {
         return run_fragment(
-            out,
-            entries,
-            placements,
-            singles,
-            multi,
-            keys,
-            ranks,
-            positions,
-            identifiers,
-            identifier_ends,
-            bases,
-            base_ends,
-            marks,
-            ranked,
-            at,
-            bytes,
-            ended,
+            out, entries, placements, singles, multi, index, catalogue, ranked, at, bytes, ended,
             state,
         );
     }
     if code != 5 {
         return RunStep {
-            advance: refuse(out, at, 20),
+            advance: refuse(out, at, Refusal::JobStream),
             state,
         };
     }
     if 0 < bytes.len() {
         return RunStep {
-            advance: refuse(out, at, 20),
+            advance: refuse(out, at, Refusal::JobStream),
             state,
         };
     }
     if ended {
-        let finish = finish_tested(placements, singles, multi, state);
-        let end = put_finish(
-            out,
-            at,
-            identifiers,
-            identifier_ends,
-            marks,
+        let counters = LentCounters {
             placements,
             singles,
             multi,
+        };
+        let finish = finish_tested(counters, state);
+        let end = put_finish(
+            out,
+            at,
+            catalogue.identifiers,
+            catalogue.identifier_ends,
+            catalogue.marks,
+            counters,
             finish,
         );
         return RunStep {

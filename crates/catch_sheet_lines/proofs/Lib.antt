@@ -1,4 +1,3 @@
-pub mod Naming
 pub mod Listing
 pub mod Grouping
 pub mod Counting

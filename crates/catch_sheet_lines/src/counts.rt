@@ -43,8 +43,7 @@ pub fn put_counts(out: &mut [u8], at: usize, sheet: Sheet) -> usize
     requires { at + counts_room ≤ length out.old }
     ensures { AddsAtMost counts_room (count_lines (counts_shown sheet)) out.old at out.new result }
 {
-    let mode = sheet.mode;
-    match mode {
+    match sheet.mode {
         AuditInputMode::SingleEnd => put_states(out, at, sheet, MateRole::S),
         AuditInputMode::PairedEnd => {
             let a = put_states(out, at, sheet, MateRole::R1);

@@ -45,10 +45,8 @@ pub fn put_groups(
     ensures { AddsAtMost (n * named_room) (entry_lines (lent_cut identifiers.now ends.now) n entries.now) out.old at out.new result }
 {
     let mut p = at;
-    let mut i: usize = 0;
-    while i < n {
+    for i in 0..n {
         p = put_entry(out, p, identifiers, ends, entries, i);
-        i += 1;
     }
     p
 }

@@ -3,10 +3,11 @@
 
 ghost use Rattle.std.specs.Prelude.{◌+◌, ◌≤◌, length};
 ghost use Rattle.identifiers.specs.Lent.{lent_cut};
-ghost use Rattle.audit_ledger.specs.Booking.{lent_counters};
+ghost use Rattle.audit_ledger.specs.Booking.{counters_in};
 ghost use Rattle.catch_text.specs.Writing.{AddsAtMost};
 ghost use Rattle.catch_sheet_lines.specs.Lent.{sheet_room, sheet_told, TargetsLent};
 
+use audit_ledger::LentCounters;
 use audit_model::sheet::Sheet;
 use catch_lines::put_run;
 use counts::put_counts;
@@ -23,17 +24,12 @@ pub fn put_sheet(
     identifiers: &[u8],
     ends: &[usize],
     marks: &[u8],
-    placements: &[u64],
-    singles: &[u64],
-    multi: &[u64],
+    counters: LentCounters<'_>,
     sheet: Sheet,
 ) -> usize
-    requires { TargetsLent identifiers.now ends.now marks.now placements.now singles.now multi.now (length ends.now) × (at + sheet_room (length ends.now) ≤ length out.old) }
-    ensures { AddsAtMost (sheet_room (length ends.now)) (sheet_told sheet (lent_counters placements.now singles.now multi.now) (lent_cut identifiers.now ends.now) marks.now (length ends.now)) out.old at out.new result }
+    requires { TargetsLent identifiers.now ends.now marks.now counters.placements.now counters.singles.now counters.multi.now (length ends.now) × (at + sheet_room (length ends.now) ≤ length out.old) }
+    ensures { AddsAtMost (sheet_room (length ends.now)) (sheet_told sheet (counters_in counters.entry) (lent_cut identifiers.now ends.now) marks.now (length ends.now)) out.old at out.new result }
 {
-    let run = sheet.run;
-    let status = run.status;
-    let n = ends.len();
     let a = put_counts(out, at, sheet);
     let b = put_targets(
         out,
@@ -41,11 +37,9 @@ pub fn put_sheet(
         identifiers,
         ends,
         marks,
-        placements,
-        singles,
-        multi,
-        status,
-        n,
+        counters,
+        sheet.run.status,
+        ends.len(),
     );
-    put_run(out, b, run)
+    put_run(out, b, sheet.run)
 }

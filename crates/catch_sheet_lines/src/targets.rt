@@ -1,10 +1,11 @@
 // The lines of targets.
 ghost use Rattle.std.specs.Prelude.{◌+◌, ◌*◌, ◌≤◌, length};
 ghost use Rattle.identifiers.specs.Lent.{lent_cut};
-ghost use Rattle.audit_ledger.specs.Booking.{lent_counters};
+ghost use Rattle.audit_ledger.specs.Booking.{counters_in};
 ghost use Rattle.catch_text.specs.Writing.{AddsAtMost};
 ghost use Rattle.catch_sheet_lines.specs.Lent.{named_room, place_line, place_lines, TargetsLent};
 
+use audit_ledger::LentCounters;
 use audit_model::sheet::{PlacementTotals, Status};
 use audit_sheet::showing::target_shown;
 use catch_lines::put_target;
@@ -17,19 +18,17 @@ fn put_place(
     identifiers: &[u8],
     ends: &[usize],
     marks: &[u8],
-    placements: &[u64],
-    singles: &[u64],
-    multi: &[u64],
+    counters: LentCounters<'_>,
     status: Status,
     i: usize,
 ) -> usize
-    requires { TargetsLent identifiers.now ends.now marks.now placements.now singles.now multi.now (i + 1) × (at + named_room ≤ length out.old) }
-    ensures { AddsAtMost named_room (place_line status (lent_counters placements.now singles.now multi.now) (lent_cut identifiers.now ends.now) marks.now i) out.old at out.new result }
+    requires { TargetsLent identifiers.now ends.now marks.now counters.placements.now counters.singles.now counters.multi.now (i + 1) × (at + named_room ≤ length out.old) }
+    ensures { AddsAtMost named_room (place_line status (counters_in counters.entry) (lent_cut identifiers.now ends.now) marks.now i) out.old at out.new result }
 {
     let totals = PlacementTotals {
-        placements: placements[i],
-        singles: singles[i],
-        multi: multi[i],
+        placements: counters.placements[i],
+        singles: counters.singles[i],
+        multi: counters.multi[i],
     };
     let shown = target_shown(status, marks[i], totals);
     let name = sequence_at(identifiers, ends, i);
@@ -43,31 +42,16 @@ pub fn put_targets(
     identifiers: &[u8],
     ends: &[usize],
     marks: &[u8],
-    placements: &[u64],
-    singles: &[u64],
-    multi: &[u64],
+    counters: LentCounters<'_>,
     status: Status,
     n: usize,
 ) -> usize
-    requires { TargetsLent identifiers.now ends.now marks.now placements.now singles.now multi.now n × (at + n * named_room ≤ length out.old) }
-    ensures { AddsAtMost (n * named_room) (place_lines status (lent_counters placements.now singles.now multi.now) (lent_cut identifiers.now ends.now) marks.now n) out.old at out.new result }
+    requires { TargetsLent identifiers.now ends.now marks.now counters.placements.now counters.singles.now counters.multi.now n × (at + n * named_room ≤ length out.old) }
+    ensures { AddsAtMost (n * named_room) (place_lines status (counters_in counters.entry) (lent_cut identifiers.now ends.now) marks.now n) out.old at out.new result }
 {
     let mut p = at;
-    let mut i: usize = 0;
-    while i < n {
-        p = put_place(
-            out,
-            p,
-            identifiers,
-            ends,
-            marks,
-            placements,
-            singles,
-            multi,
-            status,
-            i,
-        );
-        i += 1;
+    for i in 0..n {
+        p = put_place(out, p, identifiers, ends, marks, counters, status, i);
     }
     p
 }

@@ -1,4 +1,6 @@
 -- Each step of a job: the stage that it comes to, and what is kept.
+use Rattle.std.specs.Prelude.{Result, Ok, Err}
+use Rattle.catch_opening.specs.declared.Indexed.{Indexed}
 use mathlib.Core.Path.{◌≡◌, refl, sym, ap, subst, subst₂, ◌∙◌}
 use mathlib.Core.Bool.{Bool}
 use mathlib.Core.List.{List, [], ◌∷◌, ◌++◌}
@@ -23,11 +25,7 @@ use Rattle.catch_opening.specs.Opened.{JobRoom}
 use Rattle.catch_advance.specs.declared.Advance.{Advance}
 use Rattle.catch_advance.specs.Advancing.{Advances, Stays}
 use Rattle.catch_advance.proofs.Advancing.{stays}
-use Rattle.catch_supply.specs.declared.Begun.{Begun}
-use Rattle.catch_supply.specs.declared.Begun.TheVariants as begun
 use Rattle.catch_supply.specs.declared.Supplied.{Supplied}
-use Rattle.catch_supply.specs.declared.Opened.{Opened}
-use Rattle.catch_supply.specs.declared.Opened.TheVariants as opened
 use Rattle.catch_supply.specs.Supplying.{Begins, SupplyKept, SupplyTold, OpensAt}
 use Rattle.catch_run.specs.declared.RunStep.{RunStep}
 use Rattle.catch_run.specs.Running.{Passes, Runs, Ran}
@@ -74,16 +72,16 @@ module _ (j : Job) (b : Buffers) (kept : JobKept j b) (ended : Bool) (out : List
     unread : KeptAt stages.Beginning j b
     unread = subst (λ s. KeptAt s j b) first kept.at_stage
 
-    begins : (r : Begun) → Begins ended bytes out at out' r → JobAdvances ended j b bytes out at out' (begun_job at j r) b
-    begins (begun.Stopped a) t = record { advances = subst (λ s. Advances ended s bytes out at out' a s) (sym at_beginning) t; kept = kept }
-    begins (begun.Read s) t =
+    begins : (r : Result Settings Advance) → Begins ended bytes out at out' r → JobAdvances ended j b bytes out at out' (begun_job at j r) b
+    begins (Err a) t = record { advances = subst (λ s. Advances ended s bytes out at out' a s) (sym at_beginning) t; kept = kept }
+    begins (Ok s) t =
         record {
           advances = rw (at_beginning, unread.0) t;
           kept = record { supply = kept.supply; ranked = kept.ranked; keys = kept.keys; ranks = kept.ranks; positions = kept.positions; placements = kept.placements; singles = kept.singles; multi = kept.multi; at_stage = (refl, unread.1) };
         }
 
     -- with its code in front
-    pub first_step : 1 ≤ length bytes → (x : Begun) → Begins ended (get_or bytes 0 0 ∷ take (length bytes - 1) (drop 1 bytes)) out at out' x → (r : Advanced) → r ≡ begun_job at j x → JobAdvances ended j b bytes out at out' r b
+    pub first_step : 1 ≤ length bytes → (x : Result Settings Advance) → Begins ended (get_or bytes 0 0 ∷ take (length bytes - 1) (drop 1 bytes)) out at out' x → (r : Advanced) → r ≡ begun_job at j x → JobAdvances ended j b bytes out at out' r b
     first_step some x t r e = subst (λ y. JobAdvances ended j b bytes out at out' y b) (sym e) (begins x (subst (λ l. Begins ended l out at out' x) (code_first bytes some) t))
 
   -- ---- 02
@@ -148,22 +146,22 @@ module _ (j : Job) (b : Buffers) (kept : JobKept j b) (ended : Bool) (out : List
     held_started : held_by j b ≡ started c s
     held_started = λ i. record { state = unbooked.0 i; counters = counters_started i }
 
-    opens : (code : ℕ) (rest : List ℕ) (r : Opened) (ranked ks rs os : List ℕ) → OpensAt code c s (counters_of (take n b.placements) (take n b.singles) (take n b.multi)) out at out' r ranked ks rs os
+    opens : (code : ℕ) (rest : List ℕ) (r : Result Indexed Advance) (ranked ks rs os : List ℕ) → OpensAt code c s (counters_of (take n b.placements) (take n b.singles) (take n b.multi)) out at out' r ranked ks rs os
         → length ranked ≡ length b.ranked → length ks ≡ length b.keys → length rs ≡ length b.ranks → length os ≡ length b.positions
         → JobAdvances ended j b (code ∷ rest) out at out' (opened_job at j r) (buffers_of b.identifiers b.identifier_ends b.bases b.base_ends b.marks ranked ks rs os b.placements b.singles b.multi)
-    opens code rest (opened.Stopped a) ranked ks rs os t e f g i =
+    opens code rest (Err a) ranked ks rs os t e f g i =
         record {
           advances = rw second (t counters_started ended rest);
           kept = record { supply = kept.supply; ranked = e ∙ kept.ranked; keys = f ∙ kept.keys; ranks = g ∙ kept.ranks; positions = i ∙ kept.positions; placements = kept.placements; singles = kept.singles; multi = kept.multi; at_stage = rw second unbooked };
         }
-    opens code rest (opened.Indexed x) ranked ks rs os t e f g i =
+    opens code rest (Ok x) ranked ks rs os t e f g i =
         let w = t counters_started ended rest in
         record {
           advances = rw (second, held_started) w.0;
           kept = record { supply = kept.supply; ranked = e ∙ kept.ranked; keys = f ∙ kept.keys; ranks = g ∙ kept.ranks; positions = i ∙ kept.positions; placements = kept.placements; singles = kept.singles; multi = kept.multi; at_stage = (subst (Passes c) (sym held_started) w.2, w.1) };
         }
 
-    pub opening_step : 1 ≤ length bytes → (x : Opened) (ranked ks rs os : List ℕ) → OpensAt (get_or bytes 0 0) c s (counters_of (take n b.placements) (take n b.singles) (take n b.multi)) out at out' x ranked ks rs os
+    pub opening_step : 1 ≤ length bytes → (x : Result Indexed Advance) (ranked ks rs os : List ℕ) → OpensAt (get_or bytes 0 0) c s (counters_of (take n b.placements) (take n b.singles) (take n b.multi)) out at out' x ranked ks rs os
         → length ranked ≡ length b.ranked → length ks ≡ length b.keys → length rs ≡ length b.ranks → length os ≡ length b.positions → (r : Advanced) → r ≡ opened_job at j x
         → JobAdvances ended j b bytes out at out' r (buffers_of b.identifiers b.identifier_ends b.bases b.base_ends b.marks ranked ks rs os b.placements b.singles b.multi)
     opening_step some x ranked ks rs os t e f g i r q =

@@ -1,5 +1,8 @@
 -- A job and its buffers: the stage that they stand for, and what a step leaves (REFERENCE.md, "Stream").
-use Rattle.std.specs.Prelude.{◌≡◌, Bool, List, ℕ, length, take}
+use Rattle.std.specs.Prelude.{◌≡◌, Bool, List, ℕ, length, take, Result, Ok, Err}
+use Rattle.catch_advance.specs.declared.Advance.{Advance}
+use Rattle.catch_opening.specs.declared.Indexed.{Indexed}
+use Rattle.audit_model.specs.declared.settings.Settings.{Settings}
 use Rattle.catalogue.specs.Catalogue.{Catalogue, max_targets}
 use Rattle.audit_ledger.specs.Booking.{counters_of, empty_counters}
 use Rattle.audit_model.specs.Settings.{Held, fresh_state, zero_state}
@@ -10,10 +13,6 @@ use Rattle.catch_targets.specs.Supplied.{supplied_in}
 use Rattle.catch_model.specs.Job.{Stage, beginning, supplying, running}
 use Rattle.catch_opening.specs.Opened.{JobIndexed}
 use Rattle.catch_advance.specs.Advancing.{Advances}
-use Rattle.catch_supply.specs.declared.Begun.{Begun}
-use Rattle.catch_supply.specs.declared.Begun.TheVariants as begun
-use Rattle.catch_supply.specs.declared.Opened.{Opened}
-use Rattle.catch_supply.specs.declared.Opened.TheVariants as opened
 use Rattle.catch_supply.specs.Supplying.{went, SupplyKept}
 use Rattle.catch_run.specs.Running.{Passes}
 use Rattle.catch_state.specs.declared.JobStage.{JobStage}
@@ -31,14 +30,14 @@ abbrev pub new_job : Job
 new_job = record { stage = stages.Beginning; supply = no_supply; indexed = record { ranked = 0; postings = 0 }; state = zero_state }
 
 -- behind 01: a state with its settings, or the job as it was
-abbrev pub begun_job : ℕ → Job → Begun → Advanced
-begun_job at j (begun.Read s) = record { job = record { stage = stages.Supplying; supply = j.supply; indexed = j.indexed; state = fresh_state s }; advance = went at 12 }
-begun_job at j (begun.Stopped a) = record { job = j; advance = a }
+abbrev pub begun_job : ℕ → Job → Result Settings Advance → Advanced
+begun_job at j (Ok s) = record { job = record { stage = stages.Supplying; supply = j.supply; indexed = j.indexed; state = fresh_state s }; advance = went at 12 }
+begun_job at j (Err a) = record { job = j; advance = a }
 
 -- behind the opening
-abbrev pub opened_job : ℕ → Job → Opened → Advanced
-opened_job at j (opened.Indexed i) = record { job = record { stage = stages.Running; supply = j.supply; indexed = i; state = j.state }; advance = went at 0 }
-opened_job at j (opened.Stopped a) = record { job = j; advance = a }
+abbrev pub opened_job : ℕ → Job → Result Indexed Advance → Advanced
+opened_job at j (Ok i) = record { job = record { stage = stages.Running; supply = j.supply; indexed = i; state = j.state }; advance = went at 0 }
+opened_job at j (Err a) = record { job = j; advance = a }
 
 -- ---- its buffers
 

@@ -4,12 +4,11 @@
 ghost use Rattle.std.specs.Prelude.{◌≡◌};
 ghost use Rattle.catch_state.specs.Jobs.{new_job, begun_job, opened_job};
 
-use audit_model::settings::AuditState;
+use audit_model::settings::{AuditState, Settings};
 use audit_open::{fresh_state, zero_state};
 use catch_advance::Advance;
 use catch_opening::Indexed;
 use catch_progress::Progress;
-use catch_supply::{Begun, Opened};
 use catch_targets::Supply;
 
 // Nothing is read; or settings, and targets so far; or the job is opened.
@@ -55,19 +54,16 @@ pub fn new_job() -> Job
 }
 
 // A job behind its first command.
-pub fn begun_job(at: usize, job: Job, begun: Begun) -> Advanced
+pub fn begun_job(at: usize, job: Job, begun: Result<Settings, Advance>) -> Advanced
     ensures { result ≡ begun_job at job begun }
 {
-    let supply = job.supply;
-    let indexed = job.indexed;
     match begun {
-        Begun::Stopped(advance) => Advanced { job, advance },
-        Begun::Read(settings) => Advanced {
+        Err(advance) => Advanced { job, advance },
+        Ok(settings) => Advanced {
             job: Job {
                 stage: JobStage::Supplying,
-                supply,
-                indexed,
                 state: fresh_state(settings),
+                ..job
             },
             advance: Advance {
                 at,
@@ -78,19 +74,16 @@ pub fn begun_job(at: usize, job: Job, begun: Begun) -> Advanced
 }
 
 // A job behind its opening. The code that it is run at is read again by the next step.
-pub fn opened_job(at: usize, job: Job, opened: Opened) -> Advanced
+pub fn opened_job(at: usize, job: Job, opened: Result<Indexed, Advance>) -> Advanced
     ensures { result ≡ opened_job at job opened }
 {
-    let supply = job.supply;
-    let state = job.state;
     match opened {
-        Opened::Stopped(advance) => Advanced { job, advance },
-        Opened::Indexed(indexed) => Advanced {
+        Err(advance) => Advanced { job, advance },
+        Ok(indexed) => Advanced {
             job: Job {
                 stage: JobStage::Running,
-                supply,
                 indexed,
-                state,
+                ..job
             },
             advance: Advance {
                 at,

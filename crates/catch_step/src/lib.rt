@@ -6,11 +6,14 @@ ghost use Rattle.catch_model.specs.Job.{stream_entries};
 ghost use Rattle.catch_advance.specs.Advancing.{step_room};
 ghost use Rattle.catch_state.specs.Jobs.{buffers_of, lent_buffers, left_buffers, JobKept, JobAdvances};
 
+use audit_ledger::LentCounters;
 use audit_model::settings::AuditState;
+use catalogue::lent::LentCatalogue;
 use catch_advance::wait_or_refuse;
 use catch_run::run;
 use catch_state::{Advanced, Job, JobStage, begun_job, opened_job};
 use catch_supply::{begin, open, supply};
+use index_columns::LentIndex;
 
 // One step, with the bytes that are there; `ended` where the stream ends with them.
 pub fn advance(
@@ -91,14 +94,18 @@ pub fn advance(
                 keys,
                 ranks,
                 positions,
-                &placements[..targets],
-                &singles[..targets],
-                &multi[..targets],
-                &identifiers[..names],
-                &identifier_ends[..targets],
-                &bases[..count],
-                &base_ends[..targets],
-                &marks[..targets],
+                LentCounters {
+                    placements: &placements[..targets],
+                    singles: &singles[..targets],
+                    multi: &multi[..targets],
+                },
+                LentCatalogue {
+                    identifiers: &identifiers[..names],
+                    identifier_ends: &identifier_ends[..targets],
+                    bases: &bases[..count],
+                    base_ends: &base_ends[..targets],
+                    marks: &marks[..targets],
+                },
                 at,
                 code,
                 settings,
@@ -114,14 +121,18 @@ pub fn advance(
                 &mut placements[..targets],
                 &mut singles[..targets],
                 &mut multi[..targets],
-                &keys[..n],
-                &ranks[..n],
-                &positions[..n],
-                &identifiers[..names],
-                &identifier_ends[..targets],
-                &bases[..count],
-                &base_ends[..targets],
-                &marks[..targets],
+                LentIndex {
+                    keys: &keys[..n],
+                    ranks: &ranks[..n],
+                    positions: &positions[..n],
+                },
+                LentCatalogue {
+                    identifiers: &identifiers[..names],
+                    identifier_ends: &identifier_ends[..targets],
+                    bases: &bases[..count],
+                    base_ends: &base_ends[..targets],
+                    marks: &marks[..targets],
+                },
                 &ranked[..k],
                 at,
                 code,

@@ -1,4 +1,9 @@
 -- The first steps of a job, by what their calls answer.
+use Rattle.std.specs.Prelude.{Result, Ok, Err}
+use Rattle.catch_commands.specs.declared.Unread.{Unread}
+use Rattle.catch_commands.specs.declared.Unread.TheVariants as unread
+use Rattle.promises.specs.declared.refusal.Refusal.{Refusal}
+use Rattle.promises.specs.Refusal.{refusal_number}
 use mathlib.Core.Path.{◌≡◌, refl, sym, ap, subst, ◌∙◌}
 use mathlib.Core.Bool.{Bool, true, ◌||◌}
 use mathlib.Core.List.{List, [], ◌∷◌}
@@ -13,11 +18,7 @@ use Rattle.audit_ledger.specs.Booking.{Counters}
 use Rattle.audit_model.specs.declared.settings.Settings.{Settings}
 use Rattle.audit_model.specs.Settings.{audit_seed, audit_offset}
 use Rattle.audit_model.specs.Opening.{opening_refusal, started}
-use Rattle.catch_commands.specs.declared.SettingsRead.{SettingsRead}
-use Rattle.catch_commands.specs.declared.SettingsRead.TheVariants as settings
 use Rattle.catch_commands.specs.declared.TargetHead.{TargetHead}
-use Rattle.catch_commands.specs.declared.TargetRead.{TargetRead}
-use Rattle.catch_commands.specs.declared.TargetRead.TheVariants as targets
 use Rattle.catch_commands.specs.Commands.{with_target}
 use Rattle.catch_commands.specs.Telling.{SettingsTold, target_at, TargetWithin, TargetTold, TargetsTold}
 use Rattle.catch_targets.specs.declared.Supply.{Supply}
@@ -27,13 +28,10 @@ use Rattle.catch_model.specs.Feeding.{Goes, by_bytes, by_opening, settings_lack,
 use Rattle.catch_model.proofs.Steps.{begin_read, begin_wrong, begin_short, begin_other, supply_read, supply_wrong, supply_short, supply_other, opening_refuses, opening_accepts}
 use Rattle.catch_opening.specs.Opened.{JobOpens}
 use Rattle.catch_opening.specs.declared.Indexed.{Indexed}
-use Rattle.catch_opening.specs.declared.JobOpening.{JobOpening}
-use Rattle.catch_opening.specs.declared.JobOpening.TheVariants as openings
 use Rattle.catch_advance.specs.declared.Advance.{Advance}
 use Rattle.catch_advance.specs.Advancing.{WentOn, Advances, Refuses, Stays}
 use Rattle.catch_advance.proofs.Advancing.{refuses, stays, goes_on}
 use Rattle.catch_supply.specs.Supplying.{went, SupplyKept, OpensAt}
-use Rattle.catch_supply.specs.declared.Opened.TheVariants as opened
 
 -- ---- 01
 
@@ -41,22 +39,17 @@ module _ (ended : Bool) (code : ℕ) (bytes out : List ℕ) (at : ℕ) where
   pub begin_elsewhere : (out' : List ℕ) (r : Advance) → (code ≡ 1 → ⊥) → Refuses 20 out at out' r → Advances ended beginning (code ∷ bytes) out at out' r beginning
   begin_elsewhere out' r ne f = refuses beginning beginning (code ∷ bytes) out at out' r ended 20 f (begin_other bytes code ne)
 
-  module _ (is : code ≡ 1) (answer : SettingsRead) (told : SettingsTold bytes answer) where
-    as_read : (a : SettingsRead) → answer ≡ a → SettingsTold bytes a
-    as_read a e = rw e at told
-
-    pub begin_reads : (s : Settings) → answer ≡ settings.Read s → Advances ended beginning (code ∷ bytes) out at out (went at 12) (supplying s no_targets)
-    begin_reads s e =
-        let p = as_read (settings.Read s) e in
+  module _ (is : code ≡ 1) where
+    pub begin_reads : (s : Settings) → SettingsTold bytes (Ok s) → Advances ended beginning (code ∷ bytes) out at out (went at 12) (supplying s no_targets)
+    begin_reads s p =
         rw is (goes_on beginning (supplying s no_targets) (1 ∷ bytes) out at out ended 12 refl (omega (arith, p.within)) (by_bytes _ _ _ (omega arith) (omega arith)) (begin_read bytes s p))
 
     module _ (out' : List ℕ) (r : Advance) where
-      pub begin-refuses : answer ≡ settings.Wrong → Refuses 20 out at out' r → Advances ended beginning (code ∷ bytes) out at out' r beginning
-      begin-refuses e f = rw is (refuses beginning beginning (1 ∷ bytes) out at out' r ended 20 f (begin_wrong bytes (as_read settings.Wrong e)))
+      pub begin-refuses : SettingsTold bytes (Err unread.Wrong) → Refuses 20 out at out' r → Advances ended beginning (code ∷ bytes) out at out' r beginning
+      begin-refuses p f = rw is (refuses beginning beginning (1 ∷ bytes) out at out' r ended 20 f (begin_wrong bytes p))
 
-      pub begin-stays : answer ≡ settings.More → Stays ended out at out' r → Advances ended beginning (code ∷ bytes) out at out' r beginning
-      begin-stays e f =
-          let p = as_read settings.More e in
+      pub begin-stays : SettingsTold bytes (Err unread.More) → Stays ended out at out' r → Advances ended beginning (code ∷ bytes) out at out' r beginning
+      begin-stays p f =
           rw is (stays beginning (1 ∷ bytes) out at out' r (omega (arith, p.few)) ended f (settings_lack bytes p.ended) (begin_short bytes p.ended))
 
 -- ---- 02
@@ -65,7 +58,7 @@ module _ (ended : Bool) (code : ℕ) (bytes out : List ℕ) (at : ℕ) where
 at_most : (n : ℕ) (l : List ℕ) → length (take n l) ≤ n
 at_most n l = omega (arith, length-take n l)
 
-module _ (held : Supply) (is ies bs bes ms : List ℕ) (kept : SupplyKept held is ies bs bes ms) (bytes : List ℕ) (answer : TargetRead) (told : TargetsTold held.targets held.bases bytes answer) where
+module _ (held : Supply) (is ies bs bes ms : List ℕ) (kept : SupplyKept held is ies bs bes ms) (bytes : List ℕ) where
   -- the targets so far
   abbrev c : Catalogue
   c = supplied_in held is ies bs bes ms
@@ -76,27 +69,27 @@ module _ (held : Supply) (is ies bs bes ms : List ℕ) (kept : SupplyKept held i
   long : length c.bases ≡ held.bases
   long = length-take-le held.bases bs (omega (arith, kept.bases, kept.sequences))
 
-  as_told : (a : TargetRead) → answer ≡ a → TargetTold c bytes a
-  as_told a e = rw e at (told c many long)
+  as_told : (a : Result TargetHead Unread) → TargetsTold held.targets held.bases bytes a → TargetTold c bytes a
+  as_told a told = told c many long
 
   module _ (ended : Bool) (out : List ℕ) (at : ℕ) (out' : List ℕ) (r : Advance) where
-    pub supply-refuses : answer ≡ targets.Wrong → Refuses 20 out at out' r → (s : Settings) → Advances ended (supplying s c) (2 ∷ bytes) out at out' r (supplying s c)
-    supply-refuses e f s = refuses (supplying s c) (supplying s c) (2 ∷ bytes) out at out' r ended 20 f (supply_wrong s c bytes (as_told targets.Wrong e))
+    pub supply-refuses : TargetsTold held.targets held.bases bytes (Err unread.Wrong) → Refuses 20 out at out' r → (s : Settings) → Advances ended (supplying s c) (2 ∷ bytes) out at out' r (supplying s c)
+    supply-refuses e f s = refuses (supplying s c) (supplying s c) (2 ∷ bytes) out at out' r ended 20 f (supply_wrong s c bytes (as_told (Err unread.Wrong) e))
 
-    pub supply-stays : answer ≡ targets.More → Stays ended out at out' r → (s : Settings) → Advances ended (supplying s c) (2 ∷ bytes) out at out' r (supplying s c)
+    pub supply-stays : TargetsTold held.targets held.bases bytes (Err unread.More) → Stays ended out at out' r → (s : Settings) → Advances ended (supplying s c) (2 ∷ bytes) out at out' r (supplying s c)
     supply-stays e f s =
-        let p = as_told targets.More e in
+        let p = as_told (Err unread.More) e in
         stays (supplying s c) (2 ∷ bytes) out at out' r (omega (arith, p.few)) ended f (target_lacks s c bytes p.ended) (supply_short s c bytes p.ended)
 
-  module _ (h : TargetHead) (read : answer ≡ targets.Read h) where
+  module _ (h : TargetHead) (read : TargetsTold held.targets held.bases bytes (Ok h)) where
     -- all its bytes are there
     pub target_there : 6 + h.name + h.count ≤ length bytes
-    target_there = (as_told (targets.Read h) read).0.within
+    target_there = (as_told (Ok h) read).0.within
 
     -- and it is within the bounds
     pub target_fitting : TargetWithin held.targets held.bases h
     target_fitting =
-        let w = (as_told (targets.Read h) read).1 in
+        let w = (as_told (Ok h) read).1 in
         record { one = omega (arith, w.one, many); identifier = w.identifier; bases = omega (arith, w.bases, long) }
 
     -- with no more than that stored, there is still room
@@ -126,7 +119,7 @@ module _ (held : Supply) (is ies bs bes ms : List ℕ) (kept : SupplyKept held i
 
         supply_goes : (s : Settings) → Goes (supplying s c) (2 ∷ bytes) [] (supplying s c') (drop end (2 ∷ bytes))
         supply_goes s =
-            rw same_target (subst (Goes (supplying s c) (2 ∷ bytes) [] (supplying s (target_at c bytes h))) behind_target (supply_read s c bytes (target_at c bytes h) (6 + h.name + h.count) (as_told (targets.Read h) read).0))
+            rw same_target (subst (Goes (supplying s c) (2 ∷ bytes) [] (supplying s (target_at c bytes h))) behind_target (supply_read s c bytes (target_at c bytes h) (6 + h.name + h.count) (as_told (Ok h) read).0))
 
         pub supply-went : (s : Settings) → WentOn (supplying s c) (2 ∷ bytes) end [] (supplying s c')
         supply-went s = record { within = omega (arith, target_there); further = by_bytes (supplying s c) end (supplying s c') (omega arith) (omega arith); goes = supply_goes s }
@@ -141,26 +134,22 @@ pub at_five : (code : ℕ) → code ≡ 5 → (eqb code 3 || eqb code 5) ≡ tru
 at_five code e = rw e refl
 
 module _ (code : ℕ) (c : Catalogue) (s : Settings) (k : Counters) (out : List ℕ) (at : ℕ) (ranked ks rs os : List ℕ) (two : code ≡ 2 → ⊥) where
-  pub open_elsewhere : (out' : List ℕ) (r : Advance) → (code ≡ 3 → ⊥) → (code ≡ 5 → ⊥) → Refuses 20 out at out' r → OpensAt code c s k out at out' (opened.Stopped r) ranked ks rs os
+  pub open_elsewhere : (out' : List ℕ) (r : Advance) → (code ≡ 3 → ⊥) → (code ≡ 5 → ⊥) → Refuses 20 out at out' r → OpensAt code c s k out at out' (Err r) ranked ks rs os
   open_elsewhere out' r three five f =
       λ e ended bytes. refuses (supplying s c) (supplying s c) (code ∷ bytes) out at out' r ended 20 f (supply_other s c bytes code two three five)
 
-  module _ (due : (eqb code 3 || eqb code 5) ≡ true) (answer : JobOpening) (told : JobOpens c s k answer ranked ks rs os) where
-    as_opened : (a : JobOpening) → answer ≡ a → JobOpens c s k a ranked ks rs os
-    as_opened a e = rw e at told
-
+  module _ (due : (eqb code 3 || eqb code 5) ≡ true) where
     -- the refusal for counters of zero
     the_refusal : (n : ℕ) → opening_refusal audit_seed audit_offset c (lent_of c) s k ≡ n → k ≡ (started c s).counters → opening_refusal audit_seed audit_offset c (lent_of c) s (started c s).counters ≡ n
     the_refusal n e z = ap (opening_refusal audit_seed audit_offset c (lent_of c) s) (sym z) ∙ e
 
-    pub open_refuses : (n : ℕ) → answer ≡ openings.Refused n → (out' : List ℕ) (r : Advance) → Refuses n out at out' r → OpensAt code c s k out at out' (opened.Stopped r) ranked ks rs os
-    open_refuses n e out' r f =
-        let p = as_opened (openings.Refused n) e in
+    pub open_refuses : (e : Refusal) → JobOpens c s k (Err e) ranked ks rs os → (out' : List ℕ) (r : Advance) → Refuses (refusal_number e) out at out' r → OpensAt code c s k out at out' (Err r) ranked ks rs os
+    open_refuses e p out' r f =
+        let n = refusal_number e in
         λ z ended bytes. refuses (supplying s c) (supplying s c) (code ∷ bytes) out at out' r ended n f (opening_refuses s c bytes code due two n (the_refusal n p.0 z) p.1)
 
-    pub open_goes : (i : Indexed) → answer ≡ openings.Opened i → OpensAt code c s k out at out (opened.Indexed i) ranked ks rs os
-    open_goes i e =
-        let p = as_opened (openings.Opened i) e in
+    pub open_goes : (i : Indexed) → JobOpens c s k (Ok i) ranked ks rs os → OpensAt code c s k out at out (Ok i) ranked ks rs os
+    open_goes i p =
         λ z ended bytes.
         let n = the_refusal 0 p.0 z in
         (goes_on (supplying s c) (running c (started c s)) (code ∷ bytes) out at out ended 0 refl (omega arith) (by_opening s c c (started c s)) (opening_accepts s c bytes code due two n), p.1, n)

@@ -1,5 +1,6 @@
 -- The first steps of a job: settings, targets, and the opening (REFERENCE.md, "Stream").
-use Rattle.std.specs.Prelude.{◌≡◌, Bool, List, ◌∷◌, ℕ, ◌*◌, ◌≤◌, length}
+use Rattle.std.specs.Prelude.{◌≡◌, Bool, List, ◌∷◌, ℕ, ◌*◌, ◌≤◌, length, Result, Ok, Err}
+use Rattle.catch_opening.specs.declared.Indexed.{Indexed}
 use Rattle.catalogue.specs.Catalogue.{Catalogue, max_identifier}
 use Rattle.audit_ledger.specs.Booking.{Counters}
 use Rattle.audit_model.specs.declared.settings.Settings.{Settings}
@@ -12,11 +13,7 @@ use Rattle.catch_opening.specs.Opened.{JobIndexed}
 use Rattle.catch_advance.specs.declared.Advance.{Advance}
 use Rattle.catch_progress.specs.declared.Progress.TheVariants as progress
 use Rattle.catch_advance.specs.Advancing.{Advances}
-use Rattle.catch_supply.specs.declared.Begun.{Begun}
-use Rattle.catch_supply.specs.declared.Begun.TheVariants as begun
 use Rattle.catch_supply.specs.declared.Supplied.{Supplied}
-use Rattle.catch_supply.specs.declared.Opened.{Opened}
-use Rattle.catch_supply.specs.declared.Opened.TheVariants as opened
 
 -- a step that writes nothing and goes n bytes
 abbrev pub went : ℕ → ℕ → Advance
@@ -25,9 +22,9 @@ went at n = record { at = at; progress = progress.Went n }
 -- ---- 01
 
 -- settings are read from a code and eleven bytes, or nothing is
-abbrev pub Begins : Bool → List ℕ → List ℕ → ℕ → List ℕ → Begun → Type 0
-Begins ended bytes out at out' (begun.Read s) = Advances ended beginning bytes out at out' (went at 12) (supplying s no_targets)
-Begins ended bytes out at out' (begun.Stopped a) = Advances ended beginning bytes out at out' a beginning
+abbrev pub Begins : Bool → List ℕ → List ℕ → ℕ → List ℕ → Result Settings Advance → Type 0
+Begins ended bytes out at out' (Ok s) = Advances ended beginning bytes out at out' (went at 12) (supplying s no_targets)
+Begins ended bytes out at out' (Err a) = Advances ended beginning bytes out at out' a beginning
 
 -- ---- 02
 
@@ -54,13 +51,13 @@ SupplyTold ended c bytes out at out' r c' = (s : Settings) → Advances ended (s
 
 -- the targets are ranked and indexed, and the same code is read by a job that runs; or the step ends here
 module _ (ended : Bool) (bytes : List ℕ) (c : Catalogue) (s : Settings) (out : List ℕ) (at : ℕ) (out' : List ℕ) where
-  abbrev pub OpenTold : Opened → List ℕ → List ℕ → List ℕ → List ℕ → Type 0
-  OpenTold (opened.Indexed i) ranked ks rs os =
+  abbrev pub OpenTold : Result Indexed Advance → List ℕ → List ℕ → List ℕ → List ℕ → Type 0
+  OpenTold (Ok i) ranked ks rs os =
       Advances ended (supplying s c) bytes out at out' (went at 0) (running c (started c s)) × JobIndexed c i ranked ks rs os
       × (opening_refusal audit_seed audit_offset c (lent_of c) s (started c s).counters ≡ 0)
-  OpenTold (opened.Stopped a) ranked ks rs os = Advances ended (supplying s c) bytes out at out' a (supplying s c)
+  OpenTold (Err a) ranked ks rs os = Advances ended (supplying s c) bytes out at out' a (supplying s c)
 
 -- with counters of zero, whatever stands behind the code
-abbrev pub OpensAt : ℕ → Catalogue → Settings → Counters → List ℕ → ℕ → List ℕ → Opened → List ℕ → List ℕ → List ℕ → List ℕ → Type 0
+abbrev pub OpensAt : ℕ → Catalogue → Settings → Counters → List ℕ → ℕ → List ℕ → Result Indexed Advance → List ℕ → List ℕ → List ℕ → List ℕ → Type 0
 OpensAt code c s k out at out' r ranked ks rs os =
     k ≡ (started c s).counters → (ended : Bool) (bytes : List ℕ) → OpenTold ended (code ∷ bytes) c s out at out' r ranked ks rs os

@@ -33,13 +33,8 @@ fn shift(buffer: &mut [u8], from: usize, end: usize) -> usize
     requires { AtHand buffer.old from end }
     ensures { (result ≡ end - from) × Kept buffer.old from buffer.new result }
 {
-    let n = end - from;
-    let mut i: usize = 0;
-    while i < n {
-        buffer[i] = buffer[from + i];
-        i += 1;
-    }
-    n
+    buffer.copy_within(from..end, 0);
+    end - from
 }
 
 // A piece has one byte at least.

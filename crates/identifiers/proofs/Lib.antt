@@ -1,2 +1,1 @@
-pub mod Naming
 pub mod NameLaws

@@ -2,57 +2,37 @@
 #![tactic(auto)]
 
 ghost use Rattle.std.specs.Prelude.{◌≡◌};
-ghost use Rattle.promises.specs.Refusal.{accepted};
-ghost use Rattle.catalogue.specs.Catalogue.{lent_catalogue};
+ghost use Rattle.promises.specs.Refusal.{accepted, test_number};
+ghost use Rattle.catalogue.specs.Catalogue.{catalogue_in};
 ghost use Rattle.index_seeds.specs.Key.{SeedLength};
-ghost use Rattle.index_model.specs.Index.{Lent, index_refusal, lent_sequences};
+ghost use Rattle.index_model.specs.Index.{Lent, index_refusal, sequences_in};
 ghost use Rattle.index_calls.specs.Answers.{built_outcome, BuiltAs, BuiltFrom};
 
-use catalogue::ranks::Ranking;
+use catalogue::lent::LentCatalogue;
 use index_build::build_index;
-use index_model::ranked::count_postings;
+use index_columns::LentIndex;
+use index_model::ranked::{RankedTargets, count_postings};
 use index_model::test::is_index;
 use index_plan::rank_checked;
-
-// A refusal, or the number of postings built.
-#[derive(Clone, Copy)]
-pub enum Built {
-    Refused(u64),
-    Built(usize),
-}
-
-// The answer of a build that is not refused.
-fn accepted_build(n: usize) -> Built
-    ensures { built_outcome result ≡ accepted n }
-{
-    Built::Built(n)
-}
+use promises::refusal::Refusal;
 
 // Builds the index of ranked sequences where the columns have room for it: refusal 5 where they have not.
 fn build_ranked(
     keys: &mut [u64],
     ranks: &mut [u64],
     positions: &mut [u64],
-    bases: &[u8],
-    ends: &[usize],
-    ranked: &[usize],
+    targets: RankedTargets<'_>,
     q: usize,
-) -> Built
-    requires { Lent bases.now ends.now ranked.now × SeedLength q }
-    ensures { BuiltFrom q (lent_sequences bases.now ends.now ranked.now) result keys.old ranks.old positions.old keys.new ranks.new positions.new }
+) -> Result<usize, Refusal>
+    requires { Lent targets.bases.now targets.ends.now targets.ranked.now × SeedLength q }
+    ensures { BuiltFrom q (sequences_in targets.entry) result keys.old ranks.old positions.old keys.new ranks.new positions.new }
 {
-    let n = count_postings(bases, ends, ranked, q);
-    if keys.len() < n {
-        return Built::Refused(5);
+    let n = count_postings(targets, q);
+    if keys.len() < n || ranks.len() < n || positions.len() < n {
+        return Err(Refusal::IndexRoom);
     }
-    if ranks.len() < n {
-        return Built::Refused(5);
-    }
-    if positions.len() < n {
-        return Built::Refused(5);
-    }
-    build_index(keys, ranks, positions, bases, ends, ranked, q);
-    accepted_build(n)
+    build_index(keys, ranks, positions, targets, q);
+    Ok(n)
 }
 
 // Builds the index of a catalogue: refusals 1 to 5, and then no column is touched; or the first entries of the columns
@@ -61,70 +41,38 @@ pub fn build(
     keys: &mut [u64],
     ranks: &mut [u64],
     positions: &mut [u64],
-    identifiers: &[u8],
-    identifier_ends: &[usize],
-    bases: &[u8],
-    base_ends: &[usize],
-    marks: &[u8],
+    catalogue: LentCatalogue<'_>,
     q: usize,
-) -> Built
-    ensures { BuiltAs q (lent_catalogue identifiers.now identifier_ends.now bases.now base_ends.now marks.now) result keys.old ranks.old positions.old keys.new ranks.new positions.new }
+) -> Result<usize, Refusal>
+    ensures { BuiltAs q (catalogue_in catalogue.entry) result keys.old ranks.old positions.old keys.new ranks.new positions.new }
 {
     let mut places = [0usize; 4096];
-    let ranking = rank_checked(
-        &mut places,
-        identifiers,
-        identifier_ends,
-        bases,
-        base_ends,
-        marks,
-        q,
-    );
-    match ranking {
-        Ranking::Refused(n) => Built::Refused(n),
-        Ranking::Ranked(k) => build_ranked(
-            keys,
-            ranks,
-            positions,
-            bases,
-            base_ends,
-            &places[..k],
-            q,
-        ),
-    }
+    let k = rank_checked(&mut places, catalogue, q)?;
+    let targets = RankedTargets {
+        bases: catalogue.bases,
+        ends: catalogue.base_ends,
+        ranked: &places[..k],
+    };
+    build_ranked(keys, ranks, positions, targets, q)
 }
 
-// Tests a lent index: refusals 1 to 4 and 6, or 0 where the columns are the index of the catalogue.
+// Tests a lent index: refusals 1 to 4 and 6, or none where the columns are the index of the catalogue.
 pub fn check_index(
-    keys: &[u64],
-    ranks: &[u64],
-    positions: &[u64],
-    identifiers: &[u8],
-    identifier_ends: &[usize],
-    bases: &[u8],
-    base_ends: &[usize],
-    marks: &[u8],
+    index: LentIndex<'_>,
+    catalogue: LentCatalogue<'_>,
     q: usize,
-) -> u64
-    ensures { result ≡ index_refusal q (lent_catalogue identifiers.now identifier_ends.now bases.now base_ends.now marks.now) keys.now ranks.now positions.now }
+) -> Result<(), Refusal>
+    ensures { test_number result ≡ index_refusal q (catalogue_in catalogue.entry) index.entry.keys.now index.entry.ranks.now index.entry.positions.now }
 {
-    let mut places = [0usize; 4096];
-    let ranking = rank_checked(
-        &mut places,
-        identifiers,
-        identifier_ends,
-        bases,
-        base_ends,
-        marks,
-        q,
-    );
-    match ranking {
-        Ranking::Refused(n) => n,
-        Ranking::Ranked(k) => {
-            if is_index(keys, ranks, positions, bases, base_ends, &places[..k], q) {
-                return 0;
-            }
-            6
-        }
+    let mut ranked = [0usize; 4096];
+    let k = rank_checked(&mut ranked, catalogue, q)?;
+    let targets = RankedTargets {
+        bases: catalogue.bases,
+        ends: catalogue.base_ends,
+        ranked: &ranked[..k],
+    };
+    if !is_index(index, targets, q) {
+        return Err(Refusal::StaleIndex);
     }
+    Ok(())
 }

@@ -8,7 +8,7 @@ use crate::read::posting_key;
 pub fn expected(keys: &[u64], key: u64) -> usize
     requires { Rising keys.now }
 {
-    if keys.len() == 0 {
+    if keys.is_empty() {
         return NOWHERE;
     }
     let gap = typical_gap(keys);

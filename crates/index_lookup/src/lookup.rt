@@ -31,10 +31,7 @@ pub(crate) fn probe_after(low: usize, high: usize, a: u64, b: u64, gap: u64, ste
     }
     let room = (high - low) as u64;
     let by = keys_between(a, b, gap);
-    if room <= by {
-        return high - 1;
-    }
-    if room - by <= step {
+    if room <= by || room - by <= step {
         return high - 1;
     }
     low + (by + step) as usize
@@ -53,10 +50,7 @@ pub(crate) fn probe_before(low: usize, high: usize, a: u64, b: u64, gap: u64, st
     }
     let room = (high - low) as u64;
     let by = keys_between(a, b, gap);
-    if room <= by {
-        return low;
-    }
-    if room - by <= step {
+    if room <= by || room - by <= step {
         return low;
     }
     high - 1 - (by + step) as usize
@@ -74,10 +68,7 @@ fn longer(step: u64) -> u64 {
 fn keys_between(a: u64, b: u64, gap: u64) -> u64
     requires { 1 ≤ gap }
 {
-    if a <= b {
-        return (b - a) / gap;
-    }
-    (a - b) / gap
+    a.abs_diff(b) / gap
 }
 
 // The first place from `from` on whose key is not below a bound, or the end. The search begins at `first`; keys are thought
@@ -114,10 +105,7 @@ pub(crate) fn typical_gap(keys: &[u64]) -> u64
     let first = posting_key(keys, 0);
     let last = posting_key(keys, keys.len() - 1);
     let gap = (last - first) / keys.len() as u64;
-    if gap == 0 {
-        return 1;
-    }
-    gap
+    gap.max(1)
 }
 
 // Where a key is expected.
@@ -126,15 +114,8 @@ pub(crate) fn expected_place(keys: &[u64], key: u64, gap: u64) -> usize
     ensures { result < length keys.now }
 {
     let first = posting_key(keys, 0);
-    let last = keys.len() - 1;
-    if key < first {
-        return 0;
-    }
-    let place = (key - first) / gap;
-    if last as u64 <= place {
-        return last;
-    }
-    place as usize
+    let place = key.saturating_sub(first) / gap;
+    (keys.len() - 1).min(place as usize)
 }
 
 // Where a search begins: near a place that is told, if there is such a place, and else where the key is expected.
@@ -158,10 +139,7 @@ fn first_step(keys: &[u64]) -> u64
     let middle = posting_key(keys, keys.len() / 2);
     let last = posting_key(keys, keys.len() - 1);
     let quarter = (last - first) / 4;
-    if middle < first + quarter {
-        return HALVING;
-    }
-    if last - quarter < middle {
+    if middle < first + quarter || last - quarter < middle {
         return HALVING;
     }
     0
@@ -172,7 +150,7 @@ pub fn posting_range(keys: &[u64], key: u64, near: usize) -> Range
     requires { Rising keys.now }
     ensures { RangeOf keys.now key result.start result.end }
 {
-    if keys.len() == 0 {
+    if keys.is_empty() {
         return Range { start: 0, end: 0 };
     }
     let gap = typical_gap(keys);

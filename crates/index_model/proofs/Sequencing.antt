@@ -1,10 +1,10 @@
 -- The seeds of sequences, rank after rank: counted and stored.
-use mathlib.Core.Path.{◌≡◌, refl, sym, ap, ◌∙◌}
-use mathlib.Core.List.{List, [], ◌++◌, append_assoc, append-nil}
+use mathlib.Core.Path.{◌≡◌, sym, ap, ◌∙◌}
+use mathlib.Core.List.{List, [], ◌++◌, append_assoc}
 use Prim.Native.Nat.{ℕ, ◌+◌, ◌-◌, ◌*◌, ◌<◌, ◌≤◌}
 use native.Mathlib.Omega.{arith}
 use native.Mathlib.Numerals.{add-one}
-use lib.ListN.{length, get_or, drop, length-append, length-map, drop_of_length-le}
+use lib.ListN.{length, get_or, drop, length-append, length-map}
 use lib.Seq.{drop-cons}
 use lib.Dec.{ltb}
 use borrow.Author.Tests.{ltb-true}
@@ -49,9 +49,6 @@ pub record Reached (q : ℕ) (ss : List (List ℕ)) (rank : ℕ) (done : List Po
   pub joined : done ++ all_seeds q rank (drop rank ss) ≡ all_seeds q 0 ss
   pub bounded : length done ≤ rank * 16777217
 
-pub reached_none : (q : ℕ) (ss : List (List ℕ)) → Reached q ss 0 []
-reached_none q ss = record { inside = omega arith; joined = refl; bounded = omega arith }
-
 module _ (q : ℕ) (ss : List (List ℕ)) (rank : ℕ) (done : List Posting) (s : Reached q ss rank done) where
   pub reached_more : 1 ≤ q → rank < length ss → length (get_or ss rank []) ≤ max_bases → Reached q ss (rank + 1) (done ++ seeds q rank (get_or ss rank []))
   reached_more some h most =
@@ -64,17 +61,11 @@ module _ (q : ℕ) (ss : List (List ℕ)) (rank : ℕ) (done : List Posting) (s 
       next : seeds q rank (get_or ss rank []) ++ all_seeds q (rank + 1) (drop (rank + 1) ss) ≡ all_seeds q rank (drop rank ss)
       next = rw (add-one, drop-cons ss rank [])
 
-  pub reached_all : length ss ≤ rank → done ≡ all_seeds q 0 ss
-  reached_all h = sym (append-nil done) ∙ ap (λ l. done ++ all_seeds q rank l) (sym (drop_of_length-le ss h)) ∙ s.joined
-
 -- a count under way
 pub record Counting (q : ℕ) (ss : List (List ℕ)) (rank count : ℕ) : Type 0 where
   pub done : List Posting
   pub reached : Reached q ss rank done
   pub counted : count ≡ length done
-
-pub counting_none : (q : ℕ) (ss : List (List ℕ)) → Counting q ss 0 0
-counting_none q ss = record { done = []; reached = reached_none q ss; counted = refl }
 
 pub counting_more : (q : ℕ) (ss : List (List ℕ)) (rank count : ℕ) → Counting q ss rank count → 1 ≤ q → rank < length ss → length (get_or ss rank []) ≤ max_bases → Counting q ss (rank + 1) (count + starts q (get_or ss rank []))
 counting_more q ss rank count c some h most =
@@ -83,9 +74,6 @@ counting_more q ss rank count c some h most =
       reached = reached_more q ss rank c.done c.reached some h most;
       counted = omega (arith, c.counted, length-append c.done (seeds q rank (get_or ss rank [])), length-seeds q rank (get_or ss rank []) 0 (starts q (get_or ss rank [])));
     }
-
-pub counting_all : (q : ℕ) (ss : List (List ℕ)) (rank count : ℕ) → Counting q ss rank count → length ss ≤ rank → count ≡ length (all_seeds q 0 ss)
-counting_all q ss rank count c h = c.counted ∙ ap length (reached_all q ss rank c.done c.reached h)
 
 -- ---- one rank more, for what is lent
 

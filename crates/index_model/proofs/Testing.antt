@@ -1,5 +1,5 @@
--- How the test of a lent index goes: one posting, one row after the other, a block of rows, all rows; and what the first and last bases of a block tell.
-use mathlib.Core.Path.{◌≡◌, refl, sym, ap, subst, ◌∙◌}
+-- How the test of a lent index goes: one posting, a block of rows, all rows; and what the first and the last base of a row tell.
+use mathlib.Core.Path.{◌≡◌, sym, ap, subst, ◌∙◌}
 use mathlib.Core.Bool.{Bool, true, false, ◌&&◌}
 use mathlib.Core.Logic.{◌⊎◌, inl, inr}
 use mathlib.Core.List.{List, []}
@@ -9,7 +9,7 @@ use native.Mathlib.Nat.{mul-le-mul_right, pow-le-pow_right}
 use native.Mathlib.Omega.{arith}
 use lib.ListN.{length, get_or}
 use lib.Dec.{ltb, eqb}
-use borrow.Author.Tests.{lt-ltb, le-ltb, ltb-true, ltb-false, eqb-true, eq-eqb}
+use borrow.Author.Tests.{lt-ltb, ltb-true, ltb-false, eqb-true, eq-eqb}
 use Rattle.lists.specs.Cut.{window}
 use Rattle.lists.specs.Filter.{every}
 use Rattle.lists.proofs.Cases.{by_test, clash, compare, and-true}
@@ -21,47 +21,19 @@ use Rattle.index_columns.specs.Posting.{posting, earlier, row}
 use Rattle.index_seeds.specs.Key.{key_of, SeedLength}
 use Rattle.index_seeds.specs.Window.{starts}
 use Rattle.index_seeds.proofs.Keying.{key_first, key_more}
-use Rattle.index_model.specs.Index.{is_seed, RowsRight, Block, BlockRight, Climbs, Tells, Denies}
+use Rattle.index_model.specs.Index.{is_seed, Block, BlockRight, Climbs, Denies}
 
--- ---- one seed
-
-module _ (q : ℕ) (s : List ℕ) (start key : ℕ) where
-  pub short_sequence : length s < q → false ≡ (ltb start (starts q s) && eqb key (key_of (window s start q)))
-  short_sequence h = rw (le-ltb start (starts q s) (omega arith))
-
-  module _ (some : q ≤ length s) where
-    pub late_start : length s - q < start → false ≡ (ltb start (starts q s) && eqb key (key_of (window s start q)))
-    late_start h = rw (le-ltb start (starts q s) (omega arith))
-
-    pub by_key : start ≤ length s - q → (k : ℕ) → k ≡ key_of (window s start q) → eqb key k ≡ (ltb start (starts q s) && eqb key (key_of (window s start q)))
-    by_key h k e = rw (lt-ltb start (starts q s) (omega arith), e)
+-- ---- one posting
 
 -- the sequence of a rank has capitals
 pub rank_capitals : (ss : List (List ℕ)) (rank : ℕ) → every capitals ss ≡ true → rank < length ss → (s : List ℕ) → s ≡ get_or ss rank [] → capitals s ≡ true
 rank_capitals ss rank c h s e = rw e (every_at capitals [] ss c rank h)
 
-module _ (q : ℕ) (ss : List (List ℕ)) (key rank position : ℕ) where
-  pub no_rank : length ss ≤ rank → false ≡ is_seed q ss (posting key rank position)
-  no_rank h = rw (le-ltb rank (length ss) h)
+pub some_rank : (q : ℕ) (ss : List (List ℕ)) (key rank position : ℕ) → rank < length ss → (s : List ℕ) → s ≡ get_or ss rank [] → (ltb position (starts q s) && eqb key (key_of (window s position q))) ≡ is_seed q ss (posting key rank position)
+some_rank q ss key rank position h s e = rw (lt-ltb rank (length ss) h, e)
 
-  pub some_rank : rank < length ss → (s : List ℕ) → s ≡ get_or ss rank [] → (ltb position (starts q s) && eqb key (key_of (window s position q))) ≡ is_seed q ss (posting key rank position)
-  some_rank h s e = rw (lt-ltb rank (length ss) h, e)
-
--- ---- one row
-
-module _ (ks rs os : List ℕ) where
-  pub first_climbs : (i : ℕ) → i ≡ 0 → Tells true (Climbs ks rs os i)
-  first_climbs i e = record { yes_so = λ t. rw e tt; not_so = λ t k. clash refl t }
-
-  pub next_climbs : (i : ℕ) → (i ≡ 0 → ⊥) → (r : Bool) → r ≡ earlier (row ks rs os (i - 1)) (row ks rs os i) → Tells r (Climbs ks rs os i)
-  next_climbs zero ne r e = absurd (ne refl)
-  next_climbs (suc i) ne r e =
-      let z : suc i - 1 ≡ i = omega arith in
-      let f = e ∙ ap (λ j. earlier (row ks rs os j) (row ks rs os (suc i))) z in
-      record { yes_so = λ t. sym f ∙ t; not_so = λ t k. clash k (sym f ∙ t) }
-
-  pub row_seed : (q : ℕ) (ss : List (List ℕ)) (i key rank position : ℕ) (r : Bool) → key ≡ get_or ks i 0 → rank ≡ get_or rs i 0 → position ≡ get_or os i 0 → r ≡ is_seed q ss (posting key rank position) → is_seed q ss (row ks rs os i) ≡ r
-  row_seed q ss i key rank position r e f g h = sym (h ∙ rw (e, f, g))
+pub row_seed : (ks rs os : List ℕ) (q : ℕ) (ss : List (List ℕ)) (i key rank position : ℕ) (r : Bool) → key ≡ get_or ks i 0 → rank ≡ get_or rs i 0 → position ≡ get_or os i 0 → r ≡ is_seed q ss (posting key rank position) → is_seed q ss (row ks rs os i) ≡ r
+row_seed ks rs os q ss i key rank position r e f g h = sym (h ∙ rw (e, f, g))
 
 -- ---- a block of rows
 
@@ -71,38 +43,24 @@ pub record BlockTo (q : ℕ) (ss : List (List ℕ)) (ks rs os : List ℕ) (from 
   pub inside : i ≤ end
   pub right : BlockRight q ss ks rs os from i
 
-module _ (q : ℕ) (ss : List (List ℕ)) (ks rs os : List ℕ) (from end : ℕ) where
-  pub block_none : (i : ℕ) → i ≡ from → from < end → BlockTo q ss ks rs os from end i
-  block_none i e h = record { begun = omega arith; inside = omega arith; right = record { seeds = λ j l m. absurd (omega arith); climb = λ j l m. absurd (omega arith) } }
+module _ (q : ℕ) (ss : List (List ℕ)) (ks rs os : List ℕ) (from end i : ℕ) (s : BlockTo q ss ks rs os from end i) (h : i < end) where
+  pub block_more : (n : ℕ) → n ≡ i + 1 → is_seed q ss (row ks rs os i) ≡ true → Climbs ks rs os i → BlockTo q ss ks rs os from end n
+  block_more n m e k =
+      record {
+        begun = omega (arith, s.begun);
+        inside = omega arith;
+        right = record { seeds = λ j l o. seed j l (compare j i) o; climb = λ j l o. climbs j l (compare j i) o };
+      }
+    where
+      seed : (j : ℕ) → from ≤ j → (j < i) ⊎ ((j ≡ i) ⊎ (i < j)) → j < n → is_seed q ss (row ks rs os j) ≡ true
+      seed j l (inl o) p = s.right.seeds j l o
+      seed j l (inr (inl o)) p = ap (λ x. is_seed q ss (row ks rs os x)) o ∙ e
+      seed j l (inr (inr o)) p = absurd (omega arith)
 
-  module _ (i : ℕ) (s : BlockTo q ss ks rs os from end i) where
-    pub block_all : end ≤ i → Tells true (BlockRight q ss ks rs os from end)
-    block_all h = record { yes_so = λ t. record { seeds = λ j l m. s.right.seeds j l (omega (arith, s.inside)); climb = λ j l m. s.right.climb j l (omega (arith, s.inside)) }; not_so = λ t k. clash refl t }
-
-    module _ (h : i < end) where
-      pub no_seed : is_seed q ss (row ks rs os i) ≡ false → Tells false (BlockRight q ss ks rs os from end)
-      no_seed e = record { yes_so = λ t. clash t refl; not_so = λ t r. clash (r.seeds i s.begun h) e }
-
-      pub no_climb : (Climbs ks rs os i → ⊥) → Tells false (BlockRight q ss ks rs os from end)
-      no_climb ne = record { yes_so = λ t. clash t refl; not_so = λ t r. ne (r.climb i s.begun h) }
-
-      pub block_more : (n : ℕ) → n ≡ i + 1 → is_seed q ss (row ks rs os i) ≡ true → Climbs ks rs os i → BlockTo q ss ks rs os from end n
-      block_more n m e k =
-          record {
-            begun = omega (arith, s.begun);
-            inside = omega arith;
-            right = record { seeds = λ j l o. seed j l (compare j i) o; climb = λ j l o. climbs j l (compare j i) o };
-          }
-        where
-          seed : (j : ℕ) → from ≤ j → (j < i) ⊎ ((j ≡ i) ⊎ (i < j)) → j < n → is_seed q ss (row ks rs os j) ≡ true
-          seed j l (inl o) p = s.right.seeds j l o
-          seed j l (inr (inl o)) p = ap (λ x. is_seed q ss (row ks rs os x)) o ∙ e
-          seed j l (inr (inr o)) p = absurd (omega arith)
-
-          climbs : (j : ℕ) → from ≤ j → (j < i) ⊎ ((j ≡ i) ⊎ (i < j)) → j < n → Climbs ks rs os j
-          climbs j l (inl o) p = s.right.climb j l o
-          climbs j l (inr (inl o)) p = subst (Climbs ks rs os) (sym o) k
-          climbs j l (inr (inr o)) p = absurd (omega arith)
+      climbs : (j : ℕ) → from ≤ j → (j < i) ⊎ ((j ≡ i) ⊎ (i < j)) → j < n → Climbs ks rs os j
+      climbs j l (inl o) p = s.right.climb j l o
+      climbs j l (inr (inl o)) p = subst (Climbs ks rs os) (sym o) k
+      climbs j l (inr (inr o)) p = absurd (omega arith)
 
 -- ---- all rows
 
@@ -112,34 +70,15 @@ pub record RowsTo (q : ℕ) (ss : List (List ℕ)) (ks rs os : List ℕ) (i : �
   pub seeds : (j : ℕ) → j < i → is_seed q ss (row ks rs os j) ≡ true
   pub climb : (j : ℕ) → suc j < i → earlier (row ks rs os j) (row ks rs os (suc j)) ≡ true
 
-module _ (q : ℕ) (ss : List (List ℕ)) (ks rs os : List ℕ) where
-  pub rows_none : (i : ℕ) → i ≡ 0 → RowsTo q ss ks rs os i
-  rows_none i e = record { inside = omega arith; seeds = λ j h. absurd (omega arith); climb = λ j h. absurd (omega arith) }
-
-  -- rows that are denied to be right are not
-  pub rows_denied : {r : Bool} → Denies r (RowsRight q ss ks rs os) → r ≡ false → Tells false (RowsRight q ss ks rs os)
-  rows_denied d e = record { yes_so = λ t. clash t refl; not_so = λ t r. d.not_so e r }
-
-  -- rows of which a block is not right are not
-  pub block_wrong : {r : Bool} (from end : ℕ) → Block (length ks) from end → Tells r (BlockRight q ss ks rs os from end) → r ≡ false → Tells false (RowsRight q ss ks rs os)
-  block_wrong from end b d e = record { yes_so = λ t. clash t refl; not_so = λ t r. d.not_so e (record { seeds = λ j l m. r.seeds j (omega (arith, b.inside)); climb = λ j l m. climbs j (omega (arith, b.inside)) r.climb }) }
-    where
-      climbs : (j : ℕ) → j < length ks → ((k : ℕ) → suc k < length ks → earlier (row ks rs os k) (row ks rs os (suc k)) ≡ true) → Climbs ks rs os j
-      climbs zero l f = tt
-      climbs (suc j) l f = f j l
-
-  module _ (i : ℕ) (s : RowsTo q ss ks rs os i) where
-    pub rows_all : length ks ≤ i → Tells true (RowsRight q ss ks rs os)
-    rows_all h = record { yes_so = λ t. record { seeds = λ j k. s.seeds j (omega arith); climb = λ j k. s.climb j (omega arith) }; not_so = λ t k. clash refl t }
-
-    -- the first rows and the block behind them
-    pub rows_more : (end n : ℕ) → n ≡ end → Block (length ks) i end → BlockRight q ss ks rs os i end → RowsTo q ss ks rs os n
-    rows_more end n e b r =
-        record {
-          inside = omega (arith, b.inside);
-          seeds = λ j l. by_test (ltb j i) (λ t. s.seeds j (ltb-true j i t)) (λ t. r.seeds j (ltb-false j i t) (omega arith));
-          climb = λ j l. by_test (ltb (suc j) i) (λ t. s.climb j (ltb-true (suc j) i t)) (λ t. r.climb (suc j) (ltb-false (suc j) i t) (omega arith));
-        }
+module _ (q : ℕ) (ss : List (List ℕ)) (ks rs os : List ℕ) (i : ℕ) (s : RowsTo q ss ks rs os i) where
+  -- the first rows and the block behind them
+  pub rows_more : (end n : ℕ) → n ≡ end → Block (length ks) i end → BlockRight q ss ks rs os i end → RowsTo q ss ks rs os n
+  rows_more end n e b r =
+      record {
+        inside = omega (arith, b.inside);
+        seeds = λ j l. by_test (ltb j i) (λ t. s.seeds j (ltb-true j i t)) (λ t. r.seeds j (ltb-false j i t) (omega arith));
+        climb = λ j l. by_test (ltb (suc j) i) (λ t. s.climb j (ltb-true (suc j) i t)) (λ t. r.climb (suc j) (ltb-false (suc j) i t) (omega arith));
+      }
 
 -- ---- the ends of a row
 
@@ -165,10 +104,6 @@ first_fits q size b code high e f =
     let m = mul-le-mul_right (4 ^ (q - 1)) (code_le b) in
     rw (e, f) (omega (arith, m, p))
 
--- what is no seed is denied to be one
-pub denied : {b : Bool} → false ≡ b → Denies false (b ≡ true)
-denied e = record { not_so = λ t h. clash h (sym e) }
-
 module _ (q : ℕ) (ss : List (List ℕ)) (key rank position : ℕ) (some : 1 ≤ q) (h : rank < length ss) (s : List ℕ) (e : s ≡ get_or ss rank []) (inside : position + q ≤ length s) where
   -- the key of a posting that is a seed
   its_key : is_seed q ss (posting key rank position) ≡ true → key ≡ key_of (window s position q)
@@ -188,22 +123,3 @@ module _ (q : ℕ) (ss : List (List ℕ)) (key rank position : ℕ) (some : 1 �
       same k =
           let d = last_digit s q position (rank_capitals ss rank c h s e) some inside in
           eq-eqb (key % 4) code (rw (its_key k) (d ∙ sym (g ∙ ap (λ n. code_of (get_or s n 0)) f)))
-
--- ---- the ends of a block
-
--- a block under way: if its rows up to i deny that all rows are right, they are not
-pub record EndsTo (q : ℕ) (ss : List (List ℕ)) (ks rs os : List ℕ) (end i : ℕ) (right : Bool) : Type 0 where
-  pub inside : i ≤ end
-  pub denies : Denies right (RowsRight q ss ks rs os)
-
-module _ (q : ℕ) (ss : List (List ℕ)) (ks rs os : List ℕ) where
-  pub ends_none : (end i : ℕ) → i ≤ end → EndsTo q ss ks rs os end i true
-  ends_none end i h = record { inside = h; denies = record { not_so = λ t k. clash refl t } }
-
-  pub ends_more : (end i n : ℕ) (right r : Bool) → EndsTo q ss ks rs os end i right → i < end → end ≤ length ks → n ≡ i + 1 → (key rank position : ℕ) → key ≡ get_or ks i 0 → rank ≡ get_or rs i 0 → position ≡ get_or os i 0
-      → Denies r (is_seed q ss (posting key rank position) ≡ true) → EndsTo q ss ks rs os end n (right && r)
-  ends_more end i n right r s h inside e key rank position f g o d = record { inside = omega arith; denies = record { not_so = wrong right s.denies } }
-    where
-      wrong : (b : Bool) → Denies b (RowsRight q ss ks rs os) → (b && r) ≡ false → RowsRight q ss ks rs os → ⊥
-      wrong true m t k = d.not_so t (sym (row_seed ks rs os q ss i key rank position _ f g o refl) ∙ k.seeds i (omega arith))
-      wrong false m t k = m.not_so refl k

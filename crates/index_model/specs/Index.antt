@@ -7,6 +7,7 @@ use Rattle.lists.specs.Cut.{cut, ends_within}
 use Rattle.promises.specs.Refusal.{unless, ◌or_else◌}
 use Rattle.bases.specs.Read.{capitals}
 use Rattle.catalogue.specs.Catalogue.{Catalogue, Target, catalogue_refusal, mapped, max_targets, max_bases}
+use Rattle.index_model.specs.declared.ranked.RankedTargets.{RankedTargets}
 use Rattle.index_columns.specs.Posting.{Posting, earlier, row}
 use Rattle.index_seeds.specs.Key.{key_of, max_seed}
 use Rattle.index_seeds.specs.Seeds.{seeds, keys_of, ranks_of, positions_of}
@@ -64,6 +65,9 @@ ranked_sequences bases ends ranked = map (λ p. get_or (cut ends bases) p []) ra
 -- those that the slices of a call hold
 abbrev pub lent_sequences : List ℕ → List ℕ → List ℕ → List (List ℕ)
 lent_sequences bases ends ranked = ranked_sequences bases ends ranked
+
+abbrev pub sequences_in : RankedTargets → List (List ℕ)
+sequences_in t = lent_sequences t.bases.now t.ends.now t.ranked.now
 
 -- what every inner call is lent: sequences with right ends within the bound, and places of them by rank, all of capitals
 pub record Lent (bases ends ranked : List ℕ) : Type 0 where

@@ -2,22 +2,25 @@
 ghost use Rattle.std.specs.Prelude.{◌≡◌, [], ◌<◌, length, get_or};
 ghost use Rattle.index_seeds.specs.Window.{starts};
 ghost use Rattle.index_seeds.specs.Key.{SeedLength};
-ghost use Rattle.index_model.specs.Index.{all_seeds, Lent, lent_sequences};
+ghost use Rattle.index_model.specs.Index.{all_seeds, Lent, sequences_in};
 
 use identifiers::sequences::sequence_at;
 
+// Bases of targets with their ends, and the places of the mapped targets by rank.
+#[derive(Clone, Copy)]
+pub struct RankedTargets<'a> {
+    pub bases: &'a [u8],
+    pub ends: &'a [usize],
+    pub ranked: &'a [usize],
+}
+
 // The sequence of a rank.
-pub fn ranked_sequence<'a, 'b, 'c>(
-    bases: &'a [u8],
-    ends: &'b [usize],
-    ranked: &'c [usize],
-    rank: usize,
-) -> &'a [u8]
-    requires { Lent bases.now ends.now ranked.now × (rank < length ranked.now) }
-    ensures { result.now ≡ get_or (lent_sequences bases.now ends.now ranked.now) rank [] }
+pub fn ranked_sequence<'a>(targets: RankedTargets<'a>, rank: usize) -> &'a [u8]
+    requires { Lent targets.bases.now targets.ends.now targets.ranked.now × (rank < length targets.ranked.now) }
+    ensures { result.now ≡ get_or (sequences_in targets.entry) rank [] }
 {
-    let place = ranked[rank];
-    sequence_at(bases, ends, place)
+    let place = targets.ranked[rank];
+    sequence_at(targets.bases, targets.ends, place)
 }
 
 // How many seeds of q bases a sequence has.
@@ -32,16 +35,14 @@ fn count_starts(sequence: &[u8], q: usize) -> usize
 }
 
 // How many postings all ranked sequences have.
-pub fn count_postings(bases: &[u8], ends: &[usize], ranked: &[usize], q: usize) -> usize
-    requires { Lent bases.now ends.now ranked.now × SeedLength q }
-    ensures { result ≡ length (all_seeds q 0 (lent_sequences bases.now ends.now ranked.now)) }
+pub fn count_postings(targets: RankedTargets<'_>, q: usize) -> usize
+    requires { Lent targets.bases.now targets.ends.now targets.ranked.now × SeedLength q }
+    ensures { result ≡ length (all_seeds q 0 (sequences_in targets.entry)) }
 {
     let mut count = 0;
-    let mut rank = 0;
-    while rank < ranked.len() {
-        let sequence = ranked_sequence(bases, ends, ranked, rank);
+    for rank in 0..targets.ranked.len() {
+        let sequence = ranked_sequence(targets, rank);
         count += count_starts(sequence, q);
-        rank += 1;
     }
     count
 }

@@ -6,12 +6,12 @@ ghost use Rattle.bases.specs.Read.{capitals};
 ghost use Rattle.index_columns.specs.Posting.{Columns, posting};
 ghost use Rattle.index_seeds.specs.Key.{key_of, SeedLength};
 ghost use Rattle.index_seeds.specs.Window.{starts};
-ghost use Rattle.index_model.specs.Index.{index_of, columns_of, is_seed, RowsRight, Block, BlockRight, Tells, Denies, Climbs, Lent, lent_sequences};
+ghost use Rattle.index_model.specs.Index.{index_of, columns_of, is_seed, RowsRight, Block, BlockRight, Tells, Denies, Climbs, Lent, sequences_in};
 
-use crate::ranked::{count_postings, ranked_sequence};
+use crate::ranked::{RankedTargets, count_postings, ranked_sequence};
 use bases::base::table;
 use bases::strand::oriented_code;
-use index_columns::precedes;
+use index_columns::{LentIndex, precedes};
 use index_lookup::read::{posting_key, posting_position, posting_rank};
 use index_seeds::fours::key_by_fours;
 use index_seeds::keys::power;
@@ -25,13 +25,9 @@ fn has_seed(table: &[u16; 256], sequence: &[u8], q: usize, start: usize, key: u6
     requires seed_length { SeedLength q × (capitals sequence.now ≡ true) }
     ensures { result ≡ (ltb start (starts q sequence.now) && eqb key (key_of (window sequence.now start q))) }
 {
-    if sequence.len() < q {
-        return false;
-    }
-    if sequence.len() - q < start {
-        return false;
-    }
-    key == key_by_fours(table, sequence, q, start)
+    q <= sequence.len()
+        && start <= sequence.len() - q
+        && key == key_by_fours(table, sequence, q, start)
 }
 
 // Whether a posting is a seed of the ranked sequences.
@@ -40,31 +36,22 @@ fn is_seed(
     key: u64,
     rank: usize,
     position: usize,
-    bases: &[u8],
-    ends: &[usize],
-    ranked: &[usize],
+    targets: RankedTargets<'_>,
     q: usize,
 ) -> bool
     requires table { Table table.now }
-    requires lent { Lent bases.now ends.now ranked.now × SeedLength q }
-    ensures { result ≡ is_seed q (lent_sequences bases.now ends.now ranked.now) (posting key rank position) }
+    requires lent { Lent targets.bases.now targets.ends.now targets.ranked.now × SeedLength q }
+    ensures { result ≡ is_seed q (sequences_in targets.entry) (posting key rank position) }
 {
-    if ranked.len() <= rank {
-        return false;
-    }
-    let sequence = ranked_sequence(bases, ends, ranked, rank);
-    has_seed(table, sequence, q, position, key)
+    rank < targets.ranked.len() && has_seed(table, ranked_sequence(targets, rank), q, position, key)
 }
 
 // Whether row i is later than the row before it; the first row is.
-fn row_climbs(keys: &[u64], ranks: &[u64], positions: &[u64], i: usize) -> bool
-    requires { Columns keys.now ranks.now positions.now × (i < length keys.now) }
-    ensures { Tells result (Climbs keys.now ranks.now positions.now i) }
+fn row_climbs(index: LentIndex<'_>, i: usize) -> bool
+    requires { Columns index.keys.now index.ranks.now index.positions.now × (i < length index.keys.now) }
+    ensures { Tells result (Climbs index.entry.keys.now index.entry.ranks.now index.entry.positions.now i) }
 {
-    if i == 0 {
-        return true;
-    }
-    precedes(keys, ranks, positions, i - 1, i)
+    i == 0 || precedes(index.keys, index.ranks, index.positions, i - 1, i)
 }
 
 // Where a block of rows that starts at a row ends.
@@ -72,10 +59,7 @@ fn block_end(from: usize, rows: usize) -> usize
     requires { from < rows }
     ensures { Block rows from result }
 {
-    if rows - from <= BLOCK {
-        return rows;
-    }
-    from + BLOCK
+    from + BLOCK.min(rows - from)
 }
 
 // Whether the first base of a seed is not above the first digit of a key, and the last base is the last digit; a posting is no seed
@@ -85,24 +69,19 @@ fn ends_right(
     key: u64,
     rank: usize,
     position: usize,
-    bases: &[u8],
-    ends: &[usize],
-    ranked: &[usize],
+    targets: RankedTargets<'_>,
     q: usize,
     high: u64,
 ) -> bool
     requires table { Table table.now }
-    requires lent { Lent bases.now ends.now ranked.now × (SeedLength q × (high ≡ 4 ^ (q - 1))) }
-    ensures { Denies result (is_seed q (lent_sequences bases.now ends.now ranked.now) (posting key rank position) ≡ true) }
+    requires lent { Lent targets.bases.now targets.ends.now targets.ranked.now × (SeedLength q × (high ≡ 4 ^ (q - 1))) }
+    ensures { Denies result (is_seed q (sequences_in targets.entry) (posting key rank position) ≡ true) }
 {
-    if rank >= ranked.len() {
+    if rank >= targets.ranked.len() {
         return false;
     }
-    let sequence = ranked_sequence(bases, ends, ranked, rank);
-    if sequence.len() < q {
-        return false;
-    }
-    if sequence.len() - q < position {
+    let sequence = ranked_sequence(targets, rank);
+    if sequence.len() < q || sequence.len() - q < position {
         return false;
     }
     if key < oriented_code(table, sequence, 0, position) * high {
@@ -115,30 +94,24 @@ fn ends_right(
 // that the machine reads their bases at the same time, and `block_right`, which tests everything, finds them at hand.
 fn block_ends_right(
     table: &[u16; 256],
-    keys: &[u64],
-    ranks: &[u64],
-    positions: &[u64],
-    bases: &[u8],
-    ends: &[usize],
-    ranked: &[usize],
+    index: LentIndex<'_>,
+    targets: RankedTargets<'_>,
     q: usize,
     from: usize,
     end: usize,
 ) -> bool
     requires table { Table table.now }
-    requires columns { Columns keys.now ranks.now positions.now × (Lent bases.now ends.now ranked.now × SeedLength q) }
-    requires block { Block (length keys.now) from end }
-    ensures { Denies result (RowsRight q (lent_sequences bases.now ends.now ranked.now) keys.now ranks.now positions.now) }
+    requires columns { Columns index.keys.now index.ranks.now index.positions.now × (Lent targets.bases.now targets.ends.now targets.ranked.now × SeedLength q) }
+    requires block { Block (length index.keys.now) from end }
+    ensures { Denies result (RowsRight q (sequences_in targets.entry) index.entry.keys.now index.entry.ranks.now index.entry.positions.now) }
 {
     let high = power(q - 1);
     let mut right = true;
-    let mut row = from;
-    while row < end {
-        let key = posting_key(keys, row);
-        let rank = posting_rank(ranks, row);
-        let position = posting_position(positions, row);
-        right = right & ends_right(table, key, rank, position, bases, ends, ranked, q, high);
-        row += 1;
+    for row in from..end {
+        let key = posting_key(index.keys, row);
+        let rank = posting_rank(index.ranks, row);
+        let position = posting_position(index.positions, row);
+        right &= ends_right(table, key, rank, position, targets, q, high);
     }
     right
 }
@@ -146,62 +119,44 @@ fn block_ends_right(
 // Whether every row of a block is a seed and later than the row before it.
 fn block_right(
     table: &[u16; 256],
-    keys: &[u64],
-    ranks: &[u64],
-    positions: &[u64],
-    bases: &[u8],
-    ends: &[usize],
-    ranked: &[usize],
+    index: LentIndex<'_>,
+    targets: RankedTargets<'_>,
     q: usize,
     from: usize,
     end: usize,
 ) -> bool
     requires table { Table table.now }
-    requires columns { Columns keys.now ranks.now positions.now × (Lent bases.now ends.now ranked.now × SeedLength q) }
-    requires block { Block (length keys.now) from end }
-    ensures { Tells result (BlockRight q (lent_sequences bases.now ends.now ranked.now) keys.now ranks.now positions.now from end) }
+    requires columns { Columns index.keys.now index.ranks.now index.positions.now × (Lent targets.bases.now targets.ends.now targets.ranked.now × SeedLength q) }
+    requires block { Block (length index.keys.now) from end }
+    ensures { Tells result (BlockRight q (sequences_in targets.entry) index.entry.keys.now index.entry.ranks.now index.entry.positions.now from end) }
 {
-    let mut i = from;
-    while i < end {
-        let key = posting_key(keys, i);
-        let rank = posting_rank(ranks, i);
-        let position = posting_position(positions, i);
-        if !is_seed(table, key, rank, position, bases, ends, ranked, q) {
+    for i in from..end {
+        let key = posting_key(index.keys, i);
+        let rank = posting_rank(index.ranks, i);
+        let position = posting_position(index.positions, i);
+        if !is_seed(table, key, rank, position, targets, q) {
             return false;
         }
-        if !row_climbs(keys, ranks, positions, i) {
+        if !row_climbs(index, i) {
             return false;
         }
-        i += 1;
     }
     true
 }
 
 // Whether every row is a seed and earlier than the next, block by block.
-fn rows_right(
-    keys: &[u64],
-    ranks: &[u64],
-    positions: &[u64],
-    bases: &[u8],
-    ends: &[usize],
-    ranked: &[usize],
-    q: usize,
-) -> bool
-    requires { Columns keys.now ranks.now positions.now × (Lent bases.now ends.now ranked.now × SeedLength q) }
-    ensures { Tells result (RowsRight q (lent_sequences bases.now ends.now ranked.now) keys.now ranks.now positions.now) }
+fn rows_right(index: LentIndex<'_>, targets: RankedTargets<'_>, q: usize) -> bool
+    requires { Columns index.keys.now index.ranks.now index.positions.now × (Lent targets.bases.now targets.ends.now targets.ranked.now × SeedLength q) }
+    ensures { Tells result (RowsRight q (sequences_in targets.entry) index.entry.keys.now index.entry.ranks.now index.entry.positions.now) }
 {
     let table = table();
     let mut from = 0;
-    while from < keys.len() {
-        let end = block_end(from, keys.len());
-        if !block_ends_right(
-            &table, keys, ranks, positions, bases, ends, ranked, q, from, end,
-        ) {
+    while from < index.keys.len() {
+        let end = block_end(from, index.keys.len());
+        if !block_ends_right(&table, index, targets, q, from, end) {
             return false;
         }
-        if !block_right(
-            &table, keys, ranks, positions, bases, ends, ranked, q, from, end,
-        ) {
+        if !block_right(&table, index, targets, q, from, end) {
             return false;
         }
         from = end;
@@ -210,27 +165,13 @@ fn rows_right(
 }
 
 // Whether three columns are the index of ranked sequences.
-pub fn is_index(
-    keys: &[u64],
-    ranks: &[u64],
-    positions: &[u64],
-    bases: &[u8],
-    ends: &[usize],
-    ranked: &[usize],
-    q: usize,
-) -> bool
-    requires { Lent bases.now ends.now ranked.now × SeedLength q }
-    ensures { result ≡ columns_of (index_of q (lent_sequences bases.now ends.now ranked.now)) keys.now ranks.now positions.now }
+pub fn is_index(index: LentIndex<'_>, targets: RankedTargets<'_>, q: usize) -> bool
+    requires { Lent targets.bases.now targets.ends.now targets.ranked.now × SeedLength q }
+    ensures { result ≡ columns_of (index_of q (sequences_in targets.entry)) index.entry.keys.now index.entry.ranks.now index.entry.positions.now }
 {
-    let n = count_postings(bases, ends, ranked, q);
-    if keys.len() != n {
+    let n = count_postings(targets, q);
+    if index.keys.len() != n || index.ranks.len() != n || index.positions.len() != n {
         return false;
     }
-    if ranks.len() != n {
-        return false;
-    }
-    if positions.len() != n {
-        return false;
-    }
-    rows_right(keys, ranks, positions, bases, ends, ranked, q)
+    rows_right(index, targets, q)
 }

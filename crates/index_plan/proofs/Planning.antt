@@ -1,5 +1,8 @@
 -- From the ranking of a catalogue to its sequences by rank, and the answers of the calls on its index.
+use Rattle.std.specs.Prelude.{Result, Ok, Err}
+use Rattle.promises.specs.declared.refusal.Refusal.{Refusal}
 use mathlib.Core.Path.{◌≡◌, refl, sym, ap, ap₂, ◌∙◌}
+use Rattle.promises.specs.declared.refusal.Refusal.TheVariants as refusals
 use mathlib.Core.Bool.{Bool, true, false}
 use mathlib.Core.Logic.{inl, inr}
 use mathlib.Core.List.{List, [], ◌∷◌, map}
@@ -14,13 +17,11 @@ use Rattle.lists.specs.Filter.{every}
 use Rattle.lists.proofs.Cut.{length_cut}
 use Rattle.lists.proofs.Every.{every_at, ∈-every}
 use Rattle.lists.proofs.Member.{map-∈}
-use Rattle.promises.specs.Refusal.{unless, refused, accepted}
-use Rattle.promises.proofs.Refusing.{first_stands, outcome_refused, outcome_accepted, outcome_number}
+use Rattle.promises.specs.Refusal.{refusal_number, unless, accepted}
+use Rattle.promises.proofs.Refusing.{first_stands, outcome_accepted, outcome_number}
 use Rattle.bases.specs.Base.{is_capital}
 use Rattle.catalogue.specs.Catalogue.{Catalogue, Target, Valid, proper_sequence, sequences, mapped, max_targets}
 use Rattle.catalogue.specs.Ranking.{ranking_outcome, RankedAs}
-use Rattle.catalogue.specs.declared.ranks.Ranking.{Ranking}
-use Rattle.catalogue.specs.declared.ranks.Ranking.TheVariants.{Refused, Ranked}
 use Rattle.catalogue.proofs.Checks.{bounded}
 use Rattle.catalogue.proofs.Mapped.{mapped-∈, at_its_place}
 use Rattle.catalogue.proofs.Refusals.{refused_ranked, valid}
@@ -37,11 +38,11 @@ counts k n = record { targets = k; postings = n }
 -- ---- the seed length
 
 module _ (q : ℕ) (c : Catalogue) where
-  pub seed_wrong : seed_right q ≡ false → (buffer : List ℕ) → PlanRanked q c (Refused 1) buffer
+  pub seed_wrong : seed_right q ≡ false → (buffer : List ℕ) → PlanRanked q c (Err refusals.SeedLength) buffer
   unfolding plan_refusal
   seed_wrong h buffer = record { answer = rw h refl; ranks = λ k e. absurd (refused_ranked e) }
 
-  pub seed_fits : seed_right q ≡ true → (r : Ranking) (buffer : List ℕ) → RankedAs c r buffer → PlanRanked q c r buffer
+  pub seed_fits : seed_right q ≡ true → (r : Result ℕ Refusal) (buffer : List ℕ) → RankedAs c r buffer → PlanRanked q c r buffer
   unfolding plan_refusal
   seed_fits h r buffer a = record { answer = rw h a.answer; ranks = a.ranks }
 
@@ -55,7 +56,7 @@ module _ (q : ℕ) (c : Catalogue) where
 
 -- ---- sequences by rank
 
-module _ (q : ℕ) (c : Catalogue) (r : Ranking) (buffer : List ℕ) (p : PlanRanked q c r buffer) (k : ℕ) (ranked : r ≡ Ranked k) where
+module _ (q : ℕ) (c : Catalogue) (r : Result ℕ Refusal) (buffer : List ℕ) (p : PlanRanked q c r buffer) (k : ℕ) (ranked : r ≡ Ok k) where
   told : (plan_refusal q c ≡ 0) × (length (mapped c) ≡ k)
   told = outcome_accepted (plan_refusal q c) (length (mapped c)) k (sym p.answer ∙ ap ranking_outcome ranked)
 
@@ -124,19 +125,16 @@ module _ (q : ℕ) (c : Catalogue) (r : Ranking) (buffer : List ℕ) (p : PlanRa
 
 -- ---- refusals of the ranking
 
-module _ (q : ℕ) (c : Catalogue) (r : Ranking) (buffer : List ℕ) (p : PlanRanked q c r buffer) (n : ℕ) (told : r ≡ Refused n) where
-  told_number : (plan_refusal q c ≡ n) × (n ≡ 0 → ⊥)
-  told_number = outcome_number (plan_refusal q c) n (length (mapped c)) (sym p.answer ∙ ap ranking_outcome told)
+module _ (q : ℕ) (c : Catalogue) (r : Result ℕ Refusal) (buffer : List ℕ) (p : PlanRanked q c r buffer) (e : Refusal) (told : r ≡ Err e) where
+  told_number : (plan_refusal q c ≡ refusal_number e) × (refusal_number e ≡ 0 → ⊥)
+  told_number = outcome_number (plan_refusal q c) (refusal_number e) (length (mapped c)) (sym p.answer ∙ ap ranking_outcome told)
 
-  pub number : plan_refusal q c ≡ n
+  pub number : plan_refusal q c ≡ refusal_number e
   number = told_number.0
 
-  pub not-zero : n ≡ 0 → ⊥
+  pub not-zero : refusal_number e ≡ 0 → ⊥
   not-zero = told_number.1
 
-  pub plan_refused : refused n ≡ planned q c
-  plan_refused = rw number (outcome_refused n _ not-zero)
-
-  pub test_refused : (ks rs os : List ℕ) → n ≡ index_refusal q c ks rs os
+  pub test_refused : (ks rs os : List ℕ) → refusal_number e ≡ index_refusal q c ks rs os
   unfolding index_refusal
-  test_refused ks rs os = rw number (first_stands n _ not-zero)
+  test_refused ks rs os = rw number (first_stands (refusal_number e) _ not-zero)

@@ -1,24 +1,22 @@
 -- What a plan answers (REFERENCE.md, "Index").
-use Rattle.std.specs.Prelude.{◌≡◌, List, ℕ, length}
-use Rattle.promises.specs.Refusal.{Outcome, refused, accepted, outcome}
+use Rattle.std.specs.Prelude.{◌≡◌, List, ℕ, length, Result, Ok, Err}
+use Rattle.promises.specs.declared.refusal.Refusal.{Refusal}
+use Rattle.promises.specs.Refusal.{Outcome, refused, accepted, outcome, refusal_number}
 use Rattle.catalogue.specs.Catalogue.{Catalogue, mapped}
 use Rattle.catalogue.specs.Ranking.{ranking_outcome, RanksIn}
-use Rattle.catalogue.specs.declared.ranks.Ranking.{Ranking}
 use Rattle.index_model.specs.Index.{index, plan_refusal}
 use Rattle.index_plan.specs.declared.Counts.{Counts}
-use Rattle.index_plan.specs.declared.IndexPlan.{IndexPlan}
-use Rattle.index_plan.specs.declared.IndexPlan.TheVariants as plans
 
 -- what each answer of `plan` stands for
-abbrev pub plan_outcome : IndexPlan → Outcome Counts
-plan_outcome (plans.Refused n) = refused n
-plan_outcome (plans.Planned counts) = accepted counts
+abbrev pub plan_outcome : Result Counts Refusal → Outcome Counts
+plan_outcome (Err n) = refused (refusal_number n)
+plan_outcome (Ok counts) = accepted counts
 
 -- refused, or the numbers of mapped targets and of postings
 abbrev pub planned : ℕ → Catalogue → Outcome Counts
 planned q c = outcome (plan_refusal q c) (record { targets = length (mapped c); postings = length (index q c) })
 
 -- the ranking of a catalogue whose seed length is tested too
-pub record PlanRanked (q : ℕ) (c : Catalogue) (r : Ranking) (buffer : List ℕ) : Type 0 where
+pub record PlanRanked (q : ℕ) (c : Catalogue) (r : Result ℕ Refusal) (buffer : List ℕ) : Type 0 where
   pub answer : ranking_outcome r ≡ outcome (plan_refusal q c) (length (mapped c))
   pub ranks : RanksIn c r buffer

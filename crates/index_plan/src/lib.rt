@@ -3,12 +3,14 @@
 
 ghost use Rattle.std.specs.Prelude.{◌≡◌, ◌≤◌, length};
 ghost use Rattle.promises.specs.Refusal.{accepted};
-ghost use Rattle.catalogue.specs.Catalogue.{lent_catalogue, max_targets};
+ghost use Rattle.catalogue.specs.Catalogue.{catalogue_in, max_targets};
 ghost use Rattle.index_model.specs.Index.{seed_right};
 ghost use Rattle.index_plan.specs.Answers.{plan_outcome, planned, PlanRanked};
 
-use catalogue::ranks::{Ranking, rank_targets};
-use index_model::ranked::count_postings;
+use catalogue::lent::LentCatalogue;
+use catalogue::ranks::rank_targets;
+use index_model::ranked::{RankedTargets, count_postings};
+use promises::refusal::Refusal;
 
 // How many targets are mapped, and how many postings their index has.
 #[derive(Clone, Copy)]
@@ -17,81 +19,41 @@ pub struct Counts {
     pub postings: usize,
 }
 
-#[derive(Clone, Copy)]
-pub enum IndexPlan {
-    Refused(u64),
-    Planned(Counts),
-}
-
 // Whether seeds may have a length.
 fn seed_length_right(q: usize) -> bool
     ensures { result ≡ seed_right q }
 {
-    if q < 1 {
-        return false;
-    }
-    q <= 31
-}
-
-// The answer of a plan that is not refused.
-fn accepted_plan(counts: Counts) -> IndexPlan
-    ensures { plan_outcome result ≡ accepted counts }
-{
-    IndexPlan::Planned(counts)
+    matches!(q, 1..=31)
 }
 
 // Tests the seed length and the catalogue, and ranks its targets.
 pub fn rank_checked(
     ranked: &mut [usize],
-    identifiers: &[u8],
-    identifier_ends: &[usize],
-    bases: &[u8],
-    base_ends: &[usize],
-    marks: &[u8],
+    catalogue: LentCatalogue<'_>,
     q: usize,
-) -> Ranking
+) -> Result<usize, Refusal>
     requires { max_targets ≤ length ranked.old }
-    ensures { PlanRanked q (lent_catalogue identifiers.now identifier_ends.now bases.now base_ends.now marks.now) result ranked.new }
+    ensures { PlanRanked q (catalogue_in catalogue.entry) result ranked.new }
 {
     if !seed_length_right(q) {
-        return Ranking::Refused(1);
+        return Err(Refusal::SeedLength);
     }
-    rank_targets(
-        ranked,
-        identifiers,
-        identifier_ends,
-        bases,
-        base_ends,
-        marks,
-    )
+    rank_targets(ranked, catalogue)
 }
 
 // Plans the index of a catalogue: refusals 1 to 4, or how large it is.
-pub fn plan(
-    identifiers: &[u8],
-    identifier_ends: &[usize],
-    bases: &[u8],
-    base_ends: &[usize],
-    marks: &[u8],
-    q: usize,
-) -> IndexPlan
-    ensures { plan_outcome result ≡ planned q (lent_catalogue identifiers.now identifier_ends.now bases.now base_ends.now marks.now) }
+pub fn plan(catalogue: LentCatalogue<'_>, q: usize) -> Result<Counts, Refusal>
+    ensures { plan_outcome result ≡ planned q (catalogue_in catalogue.entry) }
 {
     let mut places = [0usize; 4096];
-    let ranking = rank_checked(
-        &mut places,
-        identifiers,
-        identifier_ends,
-        bases,
-        base_ends,
-        marks,
-        q,
-    );
-    match ranking {
-        Ranking::Refused(n) => IndexPlan::Refused(n),
-        Ranking::Ranked(k) => accepted_plan(Counts {
-            targets: k,
-            postings: count_postings(bases, base_ends, &places[..k], q),
-        }),
-    }
+    let k = rank_checked(&mut places, catalogue, q)?;
+    let targets = RankedTargets {
+        bases: catalogue.bases,
+        ends: catalogue.base_ends,
+        ranked: &places[..k],
+    };
+    Ok(Counts {
+        targets: k,
+        postings: count_postings(targets, q),
+    })
 }

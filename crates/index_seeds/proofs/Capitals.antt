@@ -16,7 +16,7 @@ use Rattle.lists.proofs.Cut.{length-window}
 use Rattle.lists.proofs.Every.{every_at}
 use Rattle.bases.specs.Base.{code_of, is_capital}
 use Rattle.bases.specs.Read.{capitals}
-use Rattle.index_seeds.specs.Key.{key_of, SeedIn, KeyBegun, CapitalsAt, FoursIn}
+use Rattle.index_seeds.specs.Key.{key_of, SeedIn, KeyBegun, FoursIn}
 use Rattle.index_seeds.specs.Window.{window_of}
 use Rattle.index_seeds.proofs.Keying.{seed_end, key_fits, key_more}
 
@@ -111,14 +111,6 @@ window_four s at h =
     ∙ ap (λ w. get_or s (at + 1) 0 ∷ w) (window_first s (at + 2) (at + 3) 1 (omega arith) (omega arith)
     ∙ ap (λ w. get_or s (at + 2) 0 ∷ w) (window_first s (at + 3) (at + 4) 0 (omega arith) (omega arith))))
 
--- of a sequence of capitals it has capitals
-pub four_capitals : (s : List ℕ) (at : ℕ) → CapitalsAt s at → capitals (get_or s at 0 ∷ get_or s (at + 1) 0 ∷ get_or s (at + 2) 0 ∷ get_or s (at + 3) 0 ∷ []) ≡ true
-four_capitals s at i =
-    rw (capital at (omega (arith, i.inside)), capital (at + 1) (omega (arith, i.inside)), capital (at + 2) (omega (arith, i.inside)), capital (at + 3) (omega (arith, i.inside))) refl
-  where
-    capital : (n : ℕ) → n < length s → is_capital (get_or s n 0) ≡ true
-    capital n h = every_at is_capital 0 s i.letters n h
-
 -- four bases more
 pub key_fours : (s : List ℕ) (start i : ℕ) → start + i + 4 ≤ length s → key_of (window_of s start (i + 4)) ≡ key_of (window_of s start i) * 256 + key_of (window_of s (start + i) 4)
 unfolding key_of
@@ -134,9 +126,6 @@ key_fours s start i h =
 module _ (s : List ℕ) (q start fours k key : ℕ) (i : SeedIn s q start) (f : FoursIn s q fours) (b : KeyBegun s q start (4 * k) key) (h : k < fours) where
   fours_fit : start + 4 * k + 4 ≤ length s
   fours_fit = omega (arith, seed_end s q start i, f.inside)
-
-  pub fours_at : CapitalsAt s (start + 4 * k)
-  fours_at = record { inside = fours_fit; letters = f.letters }
 
   fours_key : key * 256 + key_of (window_of s (start + 4 * k) 4) ≡ key_of (window_of s start (4 * (k + 1)))
   fours_key =

@@ -65,10 +65,11 @@ key_fits w h =
     let p : 4 ^ length w ≤ 4 ^ 31 = pow-le-pow_right (omega arith) h in
     omega (arith, key_loose w)
 
-pub four_room : (i : ℕ) → i < 30 → 4 ^ i * 4 < 2 ^ 64
-four_room i h =
-    let m : i ≤ 30 = omega arith in
-    let p : 4 ^ i ≤ 4 ^ 30 = pow-le-pow_right (omega arith) m in
+-- what the first of at most 31 digits counts
+pub four_fits : (n : ℕ) → n < 31 → 4 ^ n < 2 ^ 64
+four_fits n h =
+    let m : n ≤ 30 = omega arith in
+    let p : 4 ^ n ≤ 4 ^ 30 = pow-le-pow_right (omega arith) m in
     omega arith
 
 -- one base more
@@ -139,6 +140,3 @@ module _ (strand : ℕ) (bs : List ℕ) (start q key i : ℕ) (s : SeedIn bs q s
         small = omega (arith, code_le (get_or (oriented strand bs) (start + i) 0));
         next = record { inside = omega arith; digits = omega (arith, key_more (oriented strand bs) start i (omega arith), d.digits) };
       }
-
-  pub digits_end : q ≤ i → key ≡ key_of (window_of (oriented strand bs) start q)
-  digits_end h = let e : i ≡ q = omega (arith, d.inside) in rw e at d.digits

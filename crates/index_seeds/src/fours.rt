@@ -37,10 +37,8 @@ fn key_of_fours(sequence: &[u8], q: usize, start: usize, fours: usize) -> u64
     ensures { result ≡ key_of (window_of sequence.now start (4 * fours)) }
 {
     let mut key: u64 = 0;
-    let mut k = 0;
-    while k < fours {
+    for k in 0..fours {
         key = key * 256 + key_of_four(sequence, start + 4 * k);
-        k += 1;
     }
     key
 }

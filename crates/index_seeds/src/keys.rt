@@ -12,13 +12,7 @@ pub fn power(n: usize) -> u64
     requires { n < max_seed }
     ensures { result ≡ 4 ^ n }
 {
-    let mut p: u64 = 1;
-    let mut i = 0;
-    while i < n {
-        p *= 4;
-        i += 1;
-    }
-    p
+    4u64.pow(n as u32)
 }
 
 // The key of the q bases at a start, from the key of the first `done` of them.
@@ -37,11 +31,9 @@ pub(crate) fn key_from(
     ensures { result ≡ key_of (window_of (oriented strand sequence.now) start q) }
 {
     let mut key = begun;
-    let mut i = done;
-    while i < q {
+    for i in done..q {
         let code = oriented_code(table, sequence, strand, start + i);
         key = key * 4 + code;
-        i += 1;
     }
     key
 }

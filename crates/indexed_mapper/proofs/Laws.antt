@@ -1,4 +1,6 @@
 -- What a user of `map` may rely on, and two searches held against each other.
+use Rattle.std.specs.Prelude.{Result}
+use Rattle.promises.specs.declared.refusal.Refusal.{Refusal}
 use mathlib.Core.Path.{◌≡◌, refl, sym, ap, ap₂, subst, ◌∙◌}
 use mathlib.Core.Bool.{Bool, true, false, ◌&&◌}
 use mathlib.Core.List.{List, [], ◌∷◌, map}
@@ -30,12 +32,12 @@ use Rattle.map_by_index.specs.Work.{work, scan_work, Way, by_index, plain, work_
 use Rattle.map_answers.specs.Answer.{Row, answer_of, listed, mapped_row, room_refusal, mapped_state}
 use Rattle.map_search.specs.Answered.{SearchAnswered}
 use Rattle.map_by_index.specs.declared.work.MappingWork.{MappingWork}
-use Rattle.map_answers.specs.declared.answer.MapAnswer.{MapAnswer}
 use Rattle.indexed_mapper.specs.Map.{read_refusal, ranked_refusal, map_refusal, MapsTo}
 use Rattle.indexed_mapper.specs.Match.{Unlisted, Listed, Lists}
 use Rattle.indexed_mapper.specs.Laws.{SearchesAgree, turned_groups, TurnedAnswer}
 use Rattle.indexed_mapper.proofs.Mapping.{at-capitals}
 use Rattle.indexed_mapper.proofs.Matching.{matches_of, matches_exactly, matches_ascend, matches-entries}
+use Rattle.map_answers.specs.declared.answer.Mapping.{Mapping}
 
 -- ---- one read whose groups stand in front of zeros: demand 2 for whoever searches
 
@@ -70,7 +72,7 @@ row_lists c right read limit w b b' e =
 
 -- ---- one answer: demand 2 for the mapper
 
-module _ (q : ℕ) (c : Catalogue) (ks rs os read : List ℕ) (limit : ℕ) (r : MapAnswer) (b b' : List ℕ) (m : MapsTo q c ks rs os read limit r b b') where
+module _ (q : ℕ) (c : Catalogue) (ks rs os read : List ℕ) (limit : ℕ) (r : Result Mapping Refusal) (b b' : List ℕ) (m : MapsTo q c ks rs os read limit r b b') where
   -- a refusal is the first whose condition holds, and it is never 0
   pub map_number : (n : ℕ) → answer_of r ≡ refused n → (map_refusal q c ks rs os read limit (entry_count b) ≡ n) × (n ≡ 0 → ⊥)
   map_number n e = outcome_number (map_refusal q c ks rs os read limit (entry_count b)) n _ (sym m.answer ∙ e)
@@ -96,7 +98,7 @@ module _ (q : ℕ) (c : Catalogue) (ks rs os read : List ℕ) (limit : ℕ) (r :
 
 -- ---- two searches of one list of sequences
 
-module _ (ss : List (List ℕ)) (ranked read : List ℕ) (limit : ℕ) (way : Way) (r : MapAnswer) (b b' : List ℕ) (s : SearchAnswered way ss ranked read limit r b b') (a : Row) (told : answer_of r ≡ accepted a) where
+module _ (ss : List (List ℕ)) (ranked read : List ℕ) (limit : ℕ) (way : Way) (r : Result Mapping Refusal) (b b' : List ℕ) (s : SearchAnswered way ss ranked read limit r b b') (a : Row) (told : answer_of r ≡ accepted a) where
   abbrev gs : List Place
   gs = groups ss read
 
@@ -116,7 +118,7 @@ module _ (ss : List (List ℕ)) (ranked read : List ℕ) (limit : ℕ) (way : Wa
       ∙ take_at (entries_of ranked (length read) (listed limit gs)) _ (length (entries_of ranked (length read) (listed limit gs))) refl
 
 -- neither is refused: the search by index and the search at every start agree, and the index compares no more
-pub searches_agree : (q : ℕ) → 1 ≤ q → (ss : List (List ℕ)) (ranked read : List ℕ) (limit : ℕ) (r r' : MapAnswer) (b b' d d' : List ℕ)
+pub searches_agree : (q : ℕ) → 1 ≤ q → (ss : List (List ℕ)) (ranked read : List ℕ) (limit : ℕ) (r r' : Result Mapping Refusal) (b b' d d' : List ℕ)
     → SearchAnswered (by_index q) ss ranked read limit r b b' → SearchAnswered plain ss ranked read limit r' d d'
     → (a a' : Row) → answer_of r ≡ accepted a → answer_of r' ≡ accepted a' → SearchesAgree a a' b' d'
 unfolding work scan_work
@@ -140,7 +142,7 @@ module _ (ss : List (List ℕ)) (read : List ℕ) where
   listed-turned limit = rw number_turned (by_test (ltb limit (length (groups ss read))) (λ t. rw t) (λ t. rw t (groups-turned ss read)))
 
 -- neither is refused: a search, in either way, of the read turned round has the same state and groups with their strands exchanged
-pub search_turned : (ss : List (List ℕ)) (ranked read : List ℕ) (limit : ℕ) (way way' : Way) (r r' : MapAnswer) (b b' d d' : List ℕ)
+pub search_turned : (ss : List (List ℕ)) (ranked read : List ℕ) (limit : ℕ) (way way' : Way) (r r' : Result Mapping Refusal) (b b' d d' : List ℕ)
     → SearchAnswered way ss ranked read limit r b b' → SearchAnswered way' ss ranked (reverse_complement read) limit r' d d'
     → (a a' : Row) → answer_of r ≡ accepted a → answer_of r' ≡ accepted a' → TurnedAnswer ranked (length read) limit (groups ss read) a a' d'
 search_turned ss ranked read limit way way' r r' b b' d d' s s' a a' e e' =
@@ -156,7 +158,7 @@ search_turned ss ranked read limit way way' r r' b b' d d' s s' a a' e e' =
 
 -- ---- and for map
 
-module _ (q : ℕ) (c : Catalogue) (ks rs os read : List ℕ) (limit : ℕ) (r : MapAnswer) (b b' : List ℕ) (m : MapsTo q c ks rs os read limit r b b') (a : Row) (told : answer_of r ≡ accepted a) where
+module _ (q : ℕ) (c : Catalogue) (ks rs os read : List ℕ) (limit : ℕ) (r : Result Mapping Refusal) (b b' : List ℕ) (m : MapsTo q c ks rs os read limit r b b') (a : Row) (told : answer_of r ≡ accepted a) where
   -- an accepted answer of `map` is that of the search by index
   map_searched : SearchAnswered (by_index q) (mapped_sequences c) (supplied_places c) read limit r b b'
   unfolding map_refusal
@@ -168,7 +170,7 @@ module _ (q : ℕ) (c : Catalogue) (ks rs os read : List ℕ) (limit : ℕ) (r :
       rw (y, v) at m
 
 -- a read and the read turned round, both accepted
-pub map_turned : (q : ℕ) (c : Catalogue) (ks rs os read : List ℕ) (limit : ℕ) (r r' : MapAnswer) (b b' d d' : List ℕ)
+pub map_turned : (q : ℕ) (c : Catalogue) (ks rs os read : List ℕ) (limit : ℕ) (r r' : Result Mapping Refusal) (b b' d d' : List ℕ)
     → MapsTo q c ks rs os read limit r b b' → MapsTo q c ks rs os (reverse_complement read) limit r' d d'
     → (a a' : Row) → answer_of r ≡ accepted a → answer_of r' ≡ accepted a' → TurnedAnswer (supplied_places c) (length read) limit (groups (mapped_sequences c) read) a a' d'
 map_turned q c ks rs os read limit r r' b b' d d' m m' a a' e e' =

@@ -1,5 +1,8 @@
 -- From the tests of a read to the answer of `map`.
+use Rattle.std.specs.Prelude.{Result, Ok, Err}
+use Rattle.promises.specs.declared.refusal.Refusal.{Refusal}
 use mathlib.Core.Path.{◌≡◌, refl, ap, ◌∙◌}
+use Rattle.promises.specs.declared.refusal.Refusal.TheVariants as refusals
 use mathlib.Core.Bool.{Bool, true, false, ◌&&◌}
 use mathlib.Core.List.{List, [], ◌∷◌}
 use Prim.Native.Nat.{ℕ, zero, suc, ◌≤◌, ◌<◌}
@@ -13,12 +16,10 @@ use Rattle.lists.proofs.Cases.{by_test, clash, and-true}
 use Rattle.lists.proofs.Same.{same_true}
 use Rattle.bases.specs.Base.{A, C, G, T, is_capital}
 use Rattle.bases.proofs.Bytes.{letter_capital}
-use Rattle.promises.specs.Refusal.{unless, ◌or_else◌}
-use Rattle.promises.proofs.Refusing.{first_stands}
+use Rattle.promises.specs.Refusal.{unless, ◌or_else◌, refused, refusal_number}
+use Rattle.promises.proofs.Refusing.{numbered, first_stands}
 use Rattle.identifiers.specs.Name.{distinct_names}
 use Rattle.catalogue.specs.Catalogue.{Catalogue, names, sequences, in_bounds, proper_sequence, catalogue_refusal, supplied_places}
-use Rattle.catalogue.specs.declared.ranks.Ranking.{Ranking}
-use Rattle.catalogue.specs.declared.ranks.Ranking.TheVariants.{Refused, Ranked}
 use Rattle.index_seeds.specs.Seeds.{keys_of, ranks_of, positions_of}
 use Rattle.index_seeds.specs.Key.{SeedLength}
 use Rattle.index_model.specs.Index.{index_of, mapped_sequences, ranked_sequences, seed_right, plan_refusal, index_refusal, columns_of, Lent, Indexed}
@@ -32,9 +33,8 @@ use Rattle.map_by_index.specs.Work.{by_index}
 use Rattle.map_answers.specs.Answer.{room_refusal}
 use Rattle.map_search.specs.Answered.{SearchAnswered}
 use Rattle.map_by_index.specs.Steps.{IndexSearchable, Mappable}
-use Rattle.map_answers.specs.declared.answer.MapAnswer.{MapAnswer}
-use Rattle.map_answers.specs.declared.answer.MapAnswer.TheVariants as answers
 use Rattle.indexed_mapper.specs.Map.{read_refusal, ranked_refusal, map_refusal, RankedAnswered, ReadMapped, IndexMapped, MapsTo}
+use Rattle.map_answers.specs.declared.answer.Mapping.{Mapping}
 
 -- ---- refusals of a read and a limit
 
@@ -119,23 +119,24 @@ searchable q bases ends ranked ks rs os read limit m z =
 
 module _ (q : ℕ) (ss : List (List ℕ)) (ranked read : List ℕ) (limit : ℕ) (b : List ℕ) where
   -- refused before a search, with nothing touched
-  refused_as : (n refusal : ℕ) → n ≡ refusal → (n ≡ 0 → ⊥) → n < 10 → RankedAnswered refusal q ss ranked read limit (answers.Refused n) b b
-  refused_as zero refusal e ne h = absurd (ne refl)
-  refused_as (suc n) refusal e ne h = rw (← e) (record { answer = refl; entries = rw (ne_eqb (suc n) 10 (λ z. omega arith)) refl })
+  refused_as : (e : Refusal) (n refusal : ℕ) → refusal_number e ≡ n → n ≡ refusal → (n ≡ 0 → ⊥) → n < 10 → RankedAnswered refusal q ss ranked read limit (Err e) b b
+  refused_as e zero refusal told is ne h = absurd (ne refl)
+  refused_as e (suc n) refusal told is ne h = rw (← is) (record { answer = ap refused told; entries = rw (ne_eqb (suc n) 10 (λ z. omega arith)) refl })
 
-  pub read_refused : (n : ℕ) → n ≡ read_refusal read limit → (n ≡ 0 → ⊥) → ReadMapped q ss ranked read limit (answers.Refused n) b b
-  read_refused n e ne =
+  pub read_refused : (e : Refusal) → refusal_number e ≡ read_refusal read limit → ReadMapped q ss ranked read limit (Err e) b b
+  read_refused e told =
+      let n : ℕ = refusal_number e in
       let room : ℕ = room_refusal (entry_count b) limit (length (groups ss read)) in
-      refused_as n (ranked_refusal ss read limit (entry_count b)) (first_stands n room ne ∙ ap (λ m. m or_else room) e) ne (omega (arith, read_below read limit))
+      refused_as e n (ranked_refusal ss read limit (entry_count b)) refl (first_stands n room (numbered e) ∙ ap (λ m. m or_else room) told) (numbered e) (omega (arith, read_below read limit))
 
-  pub read_searched : read_refusal read limit ≡ 0 → (r : MapAnswer) (b' : List ℕ) → SearchAnswered (by_index q) ss ranked read limit r b b' → ReadMapped q ss ranked read limit r b b'
+  pub read_searched : read_refusal read limit ≡ 0 → (r : Result Mapping Refusal) (b' : List ℕ) → SearchAnswered (by_index q) ss ranked read limit r b b' → ReadMapped q ss ranked read limit r b b'
   read_searched e r b' a = rw e a
 
   module _ (ks rs os : List ℕ) where
-    pub index_refused : columns_of (index_of q ss) ks rs os ≡ false → IndexMapped q ss ranked ks rs os read limit (answers.Refused 6) b b
-    index_refused e = refused_as 6 (unless (columns_of (index_of q ss) ks rs os) 6 or_else ranked_refusal ss read limit (entry_count b)) (rw e) (λ z. omega arith) (omega arith)
+    pub index_refused : columns_of (index_of q ss) ks rs os ≡ false → IndexMapped q ss ranked ks rs os read limit (Err refusals.StaleIndex) b b
+    index_refused e = refused_as refusals.StaleIndex 6 (unless (columns_of (index_of q ss) ks rs os) 6 or_else ranked_refusal ss read limit (entry_count b)) refl (rw e) (λ z. omega arith) (omega arith)
 
-    pub index_right_lem : columns_of (index_of q ss) ks rs os ≡ true → (r : MapAnswer) (b' : List ℕ) → ReadMapped q ss ranked read limit r b b' → IndexMapped q ss ranked ks rs os read limit r b b'
+    pub index_right_lem : columns_of (index_of q ss) ks rs os ≡ true → (r : Result Mapping Refusal) (b' : List ℕ) → ReadMapped q ss ranked read limit r b b' → IndexMapped q ss ranked ks rs os read limit r b b'
     index_right_lem e r b' a = rw e a
 
 -- ---- from the ranking of a catalogue
@@ -151,23 +152,24 @@ plan_below q c =
     (λ f. rw (e, f) (omega arith)))
     (λ e. rw e (omega arith))
 
-module _ (q : ℕ) (c : Catalogue) (r : Ranking) (buffer : List ℕ) (p : PlanRanked q c r buffer) where
+module _ (q : ℕ) (c : Catalogue) (r : Result ℕ Refusal) (buffer : List ℕ) (p : PlanRanked q c r buffer) where
   module _ (ks rs os read : List ℕ) (limit : ℕ) (b : List ℕ) where
-    pub map_refused : (n : ℕ) → r ≡ Refused n → MapsTo q c ks rs os read limit (answers.Refused n) b b
+    pub map_refused : (e : Refusal) → r ≡ Err e → MapsTo q c ks rs os read limit (Err e) b b
     unfolding map_refusal
-    map_refused n e =
-        let ne = not-zero q c r buffer p n e in
+    map_refused e told =
+        let n : ℕ = refusal_number e in
+        let ne = not-zero q c r buffer p e told in
         let rest : ℕ = ranked_refusal (mapped_sequences c) read limit (entry_count b) in
-        refused_as q (mapped_sequences c) (supplied_places c) read limit b n (index_refusal q c ks rs os or_else rest)
-        (first_stands n rest ne ∙ ap (λ m. m or_else rest) (test_refused q c r buffer p n e ks rs os)) ne
-        (omega (arith, number q c r buffer p n e, plan_below q c))
+        refused_as q (mapped_sequences c) (supplied_places c) read limit b e n (index_refusal q c ks rs os or_else rest) refl
+        (first_stands n rest ne ∙ ap (λ m. m or_else rest) (test_refused q c r buffer p e told ks rs os)) ne
+        (omega (arith, number q c r buffer p e told, plan_below q c))
 
-    module _ (k : ℕ) (e : r ≡ Ranked k) where
+    module _ (k : ℕ) (e : r ≡ Ok k) where
       abbrev ss : List (List ℕ)
       ss = ranked_sequences c.bases c.base_ends (take k buffer)
 
       -- the answer for the ranked sequences is that for the catalogue
-      pub map-done : (x : MapAnswer) (b' : List ℕ) → IndexMapped q ss (take k buffer) ks rs os read limit x b b' → MapsTo q c ks rs os read limit x b b'
+      pub map-done : (x : Result Mapping Refusal) (b' : List ℕ) → IndexMapped q ss (take k buffer) ks rs os read limit x b b' → MapsTo q c ks rs os read limit x b b'
       unfolding map_refusal index_refusal
       map-done x b' a =
           rw (no_refusal q c r buffer p k e) (rw (ranked_mapped q c r buffer p k e, p.ranks k e) at a)

@@ -1,129 +1,92 @@
 // The public call that maps a read.
 ghost use Rattle.std.specs.Prelude.{◌≡◌};
-ghost use Rattle.catalogue.specs.Catalogue.{lent_catalogue};
+ghost use Rattle.catalogue.specs.Catalogue.{catalogue_in};
 ghost use Rattle.index_seeds.specs.Key.{SeedLength};
-ghost use Rattle.index_model.specs.Index.{Lent, lent_sequences};
+ghost use Rattle.index_model.specs.Index.{Lent, sequences_in};
 ghost use Rattle.map_by_index.specs.Steps.{Mappable};
 ghost use Rattle.indexed_mapper.specs.Map.{read_refusal, ReadMapped, IndexMapped, MapsTo};
+ghost use Rattle.promises.specs.Refusal.{test_number};
 
 use catalogue::bounds::proper_sequence;
-use catalogue::ranks::Ranking;
+use catalogue::lent::LentCatalogue;
+use index_columns::LentIndex;
 use index_lookup::lookup::NOWHERE;
+use index_model::ranked::RankedTargets;
 use index_model::test::is_index;
 use index_plan::rank_checked;
-use map_answers::answer::MapAnswer;
+use map_answers::answer::Mapping;
 use map_answers::bounds::{length_right, limit_right};
 use map_search::search;
+use promises::refusal::Refusal;
 
-// Tests a read and a limit: refusals 7, 8 and 9, or 0.
+// Tests a read and a limit: refusals 7, 8 and 9, or none.
 #[tactic(auto, using(crate::proofs::Mapping::read_long, crate::proofs::Mapping::read_improper, crate::proofs::Mapping::limit_out, crate::proofs::Mapping::read_accepted))]
-pub fn check_read(read: &[u8], limit: u64) -> u64
-    ensures { result ≡ read_refusal read.now limit }
+pub fn check_read(read: &[u8], limit: u64) -> Result<(), Refusal>
+    ensures { test_number result ≡ read_refusal read.now limit }
 {
-    let short = length_right(read);
-    let proper = proper_sequence(read);
-    let within = limit_right(limit);
-    if !short {
-        return 7;
+    if !length_right(read) {
+        return Err(Refusal::ReadLength);
     }
-    if !proper {
-        return 8;
+    if !proper_sequence(read) {
+        return Err(Refusal::ReadBases);
     }
-    if !within {
-        return 9;
+    if !limit_right(limit) {
+        return Err(Refusal::CandidateLimit);
     }
-    0
+    Ok(())
 }
 
 // Tests a read and a limit, and searches: refusals 7 to 10, or the state and groups of the read.
 pub fn map_read(
     entries: &mut [u64],
-    bases: &[u8],
-    ends: &[usize],
-    ranked: &[usize],
-    keys: &[u64],
-    ranks: &[u64],
-    positions: &[u64],
+    targets: RankedTargets<'_>,
+    index: LentIndex<'_>,
     q: usize,
     read: &[u8],
     limit: u64,
-) -> MapAnswer
-    requires { Mappable q bases.now ends.now ranked.now keys.now ranks.now positions.now }
-    ensures { ReadMapped q (lent_sequences bases.now ends.now ranked.now) ranked.now read.now limit result entries.old entries.new }
+) -> Result<Mapping, Refusal>
+    requires { Mappable q targets.bases.now targets.ends.now targets.ranked.now index.keys.now index.ranks.now index.positions.now }
+    ensures { ReadMapped q (sequences_in targets.entry) targets.entry.ranked.now read.now limit result entries.old entries.new }
 {
-    let refusal = check_read(read, limit);
-    if refusal != 0 {
-        return MapAnswer::Refused(refusal);
-    }
-    search(
-        entries, bases, ends, ranked, keys, ranks, positions, q, read, limit, NOWHERE, NOWHERE,
-    )
+    check_read(read, limit)?;
+    search(entries, targets, index, q, read, limit, NOWHERE, NOWHERE)
 }
 
 // Tests the index, and maps the read: refusals 6 to 10, or the state and groups of the read.
 fn map_ranked(
     entries: &mut [u64],
-    bases: &[u8],
-    ends: &[usize],
-    ranked: &[usize],
-    keys: &[u64],
-    ranks: &[u64],
-    positions: &[u64],
+    targets: RankedTargets<'_>,
+    index: LentIndex<'_>,
     q: usize,
     read: &[u8],
     limit: u64,
-) -> MapAnswer
-    requires { Lent bases.now ends.now ranked.now × SeedLength q }
-    ensures { IndexMapped q (lent_sequences bases.now ends.now ranked.now) ranked.now keys.now ranks.now positions.now read.now limit result entries.old entries.new }
+) -> Result<Mapping, Refusal>
+    requires { Lent targets.bases.now targets.ends.now targets.ranked.now × SeedLength q }
+    ensures { IndexMapped q (sequences_in targets.entry) targets.entry.ranked.now index.entry.keys.now index.entry.ranks.now index.entry.positions.now read.now limit result entries.old entries.new }
 {
-    if !is_index(keys, ranks, positions, bases, ends, ranked, q) {
-        return MapAnswer::Refused(6);
+    if !is_index(index, targets, q) {
+        return Err(Refusal::StaleIndex);
     }
-    map_read(
-        entries, bases, ends, ranked, keys, ranks, positions, q, read, limit,
-    )
+    map_read(entries, targets, index, q, read, limit)
 }
 
 // Maps a read: refusals 1 to 4 and 6 to 10, or its state and its groups, which are written into the entries.
 pub fn map(
     entries: &mut [u64],
-    keys: &[u64],
-    ranks: &[u64],
-    positions: &[u64],
-    identifiers: &[u8],
-    identifier_ends: &[usize],
-    bases: &[u8],
-    base_ends: &[usize],
-    marks: &[u8],
+    index: LentIndex<'_>,
+    catalogue: LentCatalogue<'_>,
     q: usize,
     read: &[u8],
     limit: u64,
-) -> MapAnswer
-    ensures { MapsTo q (lent_catalogue identifiers.now identifier_ends.now bases.now base_ends.now marks.now) keys.now ranks.now positions.now read.now limit result entries.old entries.new }
+) -> Result<Mapping, Refusal>
+    ensures { MapsTo q (catalogue_in catalogue.entry) index.entry.keys.now index.entry.ranks.now index.entry.positions.now read.now limit result entries.old entries.new }
 {
     let mut places = [0usize; 4096];
-    let ranking = rank_checked(
-        &mut places,
-        identifiers,
-        identifier_ends,
-        bases,
-        base_ends,
-        marks,
-        q,
-    );
-    match ranking {
-        Ranking::Refused(n) => MapAnswer::Refused(n),
-        Ranking::Ranked(k) => map_ranked(
-            entries,
-            bases,
-            base_ends,
-            &places[..k],
-            keys,
-            ranks,
-            positions,
-            q,
-            read,
-            limit,
-        ),
-    }
+    let k = rank_checked(&mut places, catalogue, q)?;
+    let targets = RankedTargets {
+        bases: catalogue.bases,
+        ends: catalogue.base_ends,
+        ranked: &places[..k],
+    };
+    map_ranked(entries, targets, index, q, read, limit)
 }

@@ -2,6 +2,7 @@ ghost use Rattle.catalogue.specs.Catalogue.{lent_catalogue};
 ghost use Rattle.jekaumeo.specs.Exports.{ExportsBuild};
 
 use c_replies::put_built;
+use catalogue::lent::LentCatalogue;
 use index_calls::build;
 
 // `index_calls::build`. The answer: refusal, postings.
@@ -28,11 +29,13 @@ pub extern "C" fn jekaumeo_build(
         keys,
         ranks,
         positions,
-        identifiers,
-        identifier_ends,
-        bases,
-        base_ends,
-        marks,
+        LentCatalogue {
+            identifiers,
+            identifier_ends,
+            bases,
+            base_ends,
+            marks,
+        },
         q,
     );
     put_built(answer, built)

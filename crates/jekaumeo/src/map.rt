@@ -2,6 +2,8 @@ ghost use Rattle.catalogue.specs.Catalogue.{lent_catalogue};
 ghost use Rattle.jekaumeo.specs.Exports.{ExportsMap};
 
 use c_replies::put_answer;
+use catalogue::lent::LentCatalogue;
+use index_columns::LentIndex;
 use indexed_mapper::map::map;
 
 // `indexed_mapper::map::map`. The answer: refusal, state, groups, lookups, hits, examined, comparisons, seen.
@@ -29,14 +31,18 @@ pub extern "C" fn jekaumeo_map(
     }
     let mapped = map(
         entries,
-        keys,
-        ranks,
-        positions,
-        identifiers,
-        identifier_ends,
-        bases,
-        base_ends,
-        marks,
+        LentIndex {
+            keys,
+            ranks,
+            positions,
+        },
+        LentCatalogue {
+            identifiers,
+            identifier_ends,
+            bases,
+            base_ends,
+            marks,
+        },
         q,
         read,
         limit,

@@ -2,6 +2,7 @@ ghost use Rattle.catalogue.specs.Catalogue.{lent_catalogue};
 ghost use Rattle.jekaumeo.specs.Exports.{ExportsPlan};
 
 use c_replies::put_plan;
+use catalogue::lent::LentCatalogue;
 use index_plan::plan;
 
 // `index_plan::plan`. The answer: refusal, mapped targets, postings.
@@ -21,6 +22,15 @@ pub extern "C" fn jekaumeo_plan(
     if answer.len() < 3 {
         return 26;
     }
-    let planned = plan(identifiers, identifier_ends, bases, base_ends, marks, q);
+    let planned = plan(
+        LentCatalogue {
+            identifiers,
+            identifier_ends,
+            bases,
+            base_ends,
+            marks,
+        },
+        q,
+    );
     put_plan(answer, planned)
 }

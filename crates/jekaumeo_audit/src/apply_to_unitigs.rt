@@ -2,7 +2,9 @@ ghost use Rattle.catalogue.specs.Catalogue.{lent_catalogue};
 ghost use Rattle.audit_ledger.specs.Booking.{lent_counters};
 ghost use Rattle.c_calls.specs.Calls.{AppliesNumbers};
 
+use audit_ledger::LentCounters;
 use c_calls::finish::apply_numbers;
+use catalogue::lent::LentCatalogue;
 
 // `audit_unitigs::apply_to_unitigs`; `sheet` is the answer of `finish`.
 #[unsafe(no_mangle)]
@@ -29,19 +31,25 @@ pub extern "C" fn jekaumeo_apply_to_unitigs(
 {
     apply_numbers(
         rows,
-        placements,
-        singles,
-        multi,
-        audited_identifiers,
-        audited_identifier_ends,
-        audited_bases,
-        audited_base_ends,
-        audited_marks,
-        identifiers,
-        identifier_ends,
-        bases,
-        base_ends,
-        marks,
+        LentCounters {
+            placements,
+            singles,
+            multi,
+        },
+        LentCatalogue {
+            identifiers: audited_identifiers,
+            identifier_ends: audited_identifier_ends,
+            bases: audited_bases,
+            base_ends: audited_base_ends,
+            marks: audited_marks,
+        },
+        LentCatalogue {
+            identifiers,
+            identifier_ends,
+            bases,
+            base_ends,
+            marks,
+        },
         sheet,
     )
 }

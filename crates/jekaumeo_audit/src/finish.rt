@@ -4,7 +4,10 @@ ghost use Rattle.audit_ledger.specs.Booking.{lent_counters};
 ghost use Rattle.audit_model.specs.Calls.{lent_index};
 ghost use Rattle.c_calls.specs.Calls.{FinishesNumbers};
 
+use audit_ledger::LentCounters;
 use c_calls::finish::finish_numbers;
+use catalogue::lent::LentCatalogue;
+use index_columns::LentIndex;
 
 // `audit::finish::finish`. The answer: refusal, mode, remap, eighteen counts, status, placements, singles, multi.
 #[unsafe(no_mangle)]
@@ -28,17 +31,23 @@ pub extern "C" fn jekaumeo_finish(
 {
     finish_numbers(
         answer,
-        placements,
-        singles,
-        multi,
-        keys,
-        ranks,
-        positions,
-        identifiers,
-        identifier_ends,
-        bases,
-        base_ends,
-        marks,
+        LentCounters {
+            placements,
+            singles,
+            multi,
+        },
+        LentIndex {
+            keys,
+            ranks,
+            positions,
+        },
+        LentCatalogue {
+            identifiers,
+            identifier_ends,
+            bases,
+            base_ends,
+            marks,
+        },
         state,
         true,
     )

@@ -5,6 +5,8 @@ ghost use Rattle.audit_model.specs.Calls.{lent_index};
 ghost use Rattle.c_calls.specs.Calls.{lent_coded, coded_fragment, AuditsNumbers};
 
 use c_calls::fragment::fragment_numbers;
+use catalogue::lent::LentCatalogue;
+use index_columns::LentIndex;
 
 // `audit::fragment::fragment`. The answer: a row for each read, laid out as the answer of `jekaumeo_map`.
 #[unsafe(no_mangle)]
@@ -46,14 +48,18 @@ pub extern "C" fn jekaumeo_fragment(
         placements,
         singles,
         multi,
-        keys,
-        ranks,
-        positions,
-        identifiers,
-        identifier_ends,
-        bases,
-        base_ends,
-        marks,
+        LentIndex {
+            keys,
+            ranks,
+            positions,
+        },
+        LentCatalogue {
+            identifiers,
+            identifier_ends,
+            bases,
+            base_ends,
+            marks,
+        },
         first,
         first_qualities,
         second,

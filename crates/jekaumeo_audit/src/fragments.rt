@@ -5,7 +5,10 @@ ghost use Rattle.audit_model.specs.Calls.{lent_index};
 ghost use Rattle.batch_lists.specs.Lists.{lent_reads, lent_fragments};
 ghost use Rattle.c_calls.specs.Calls.{AuditsListNumbers};
 
+use batch_lists::LentReads;
 use c_batch::fragments_numbers;
+use catalogue::lent::LentCatalogue;
+use index_columns::LentIndex;
 
 // `batch_audit::fragments`: a row for each read, and an equal share of the entries for each fragment.
 #[unsafe(no_mangle)]
@@ -45,21 +48,27 @@ pub extern "C" fn jekaumeo_fragments(
         placements,
         singles,
         multi,
-        keys,
-        ranks,
-        positions,
-        identifiers,
-        identifier_ends,
-        bases,
-        base_ends,
-        marks,
+        LentIndex {
+            keys,
+            ranks,
+            positions,
+        },
+        LentCatalogue {
+            identifiers,
+            identifier_ends,
+            bases,
+            base_ends,
+            marks,
+        },
         ordinals,
         counts,
-        roles,
-        reads,
-        read_ends,
-        quality_marks,
-        qualities,
-        quality_ends,
+        LentReads {
+            roles,
+            bases: reads,
+            base_ends: read_ends,
+            marks: quality_marks,
+            qualities,
+            quality_ends,
+        },
     )
 }

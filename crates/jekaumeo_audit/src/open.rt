@@ -5,6 +5,8 @@ ghost use Rattle.audit_model.specs.Calls.{lent_index};
 ghost use Rattle.c_calls.specs.Calls.{OpensNumbers};
 
 use c_calls::open::open_numbers;
+use catalogue::lent::LentCatalogue;
+use index_columns::LentIndex;
 
 // `audit::open::open`, with the state that a run starts from.
 #[unsafe(no_mangle)]
@@ -34,14 +36,18 @@ pub extern "C" fn jekaumeo_open(
         placements,
         singles,
         multi,
-        keys,
-        ranks,
-        positions,
-        identifiers,
-        identifier_ends,
-        bases,
-        base_ends,
-        marks,
+        LentIndex {
+            keys,
+            ranks,
+            positions,
+        },
+        LentCatalogue {
+            identifiers,
+            identifier_ends,
+            bases,
+            base_ends,
+            marks,
+        },
         true,
         mode,
         remap,

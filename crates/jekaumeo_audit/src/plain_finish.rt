@@ -3,7 +3,10 @@ ghost use Rattle.audit_ledger.specs.Booking.{lent_counters};
 ghost use Rattle.audit_model.specs.Opening.{none};
 ghost use Rattle.c_calls.specs.Calls.{FinishesNumbers};
 
+use audit_ledger::LentCounters;
 use c_calls::finish::finish_numbers;
+use catalogue::lent::LentCatalogue;
+use index_columns::LentIndex;
 
 // `audit::finish::plain_finish`.
 #[unsafe(no_mangle)]
@@ -26,17 +29,23 @@ pub extern "C" fn jekaumeo_plain_finish(
     let nothing = &zero[..0];
     finish_numbers(
         answer,
-        placements,
-        singles,
-        multi,
-        nothing,
-        nothing,
-        nothing,
-        identifiers,
-        identifier_ends,
-        bases,
-        base_ends,
-        marks,
+        LentCounters {
+            placements,
+            singles,
+            multi,
+        },
+        LentIndex {
+            keys: nothing,
+            ranks: nothing,
+            positions: nothing,
+        },
+        LentCatalogue {
+            identifiers,
+            identifier_ends,
+            bases,
+            base_ends,
+            marks,
+        },
         state,
         false,
     )

@@ -4,6 +4,8 @@ ghost use Rattle.audit_model.specs.Opening.{none};
 ghost use Rattle.c_calls.specs.Calls.{lent_coded, coded_fragment, AuditsNumbers};
 
 use c_calls::fragment::fragment_numbers;
+use catalogue::lent::LentCatalogue;
+use index_columns::LentIndex;
 
 // `audit::fragment::plain_fragment`.
 #[unsafe(no_mangle)]
@@ -44,14 +46,18 @@ pub extern "C" fn jekaumeo_plain_fragment(
         placements,
         singles,
         multi,
-        nothing,
-        nothing,
-        nothing,
-        identifiers,
-        identifier_ends,
-        bases,
-        base_ends,
-        marks,
+        LentIndex {
+            keys: nothing,
+            ranks: nothing,
+            positions: nothing,
+        },
+        LentCatalogue {
+            identifiers,
+            identifier_ends,
+            bases,
+            base_ends,
+            marks,
+        },
         first,
         first_qualities,
         second,

@@ -4,6 +4,8 @@ ghost use Rattle.audit_model.specs.Opening.{none};
 ghost use Rattle.c_calls.specs.Calls.{OpensNumbers};
 
 use c_calls::open::open_numbers;
+use catalogue::lent::LentCatalogue;
+use index_columns::LentIndex;
 
 // `audit::open::plain_open`.
 #[unsafe(no_mangle)]
@@ -32,14 +34,18 @@ pub extern "C" fn jekaumeo_plain_open(
         placements,
         singles,
         multi,
-        nothing,
-        nothing,
-        nothing,
-        identifiers,
-        identifier_ends,
-        bases,
-        base_ends,
-        marks,
+        LentIndex {
+            keys: nothing,
+            ranks: nothing,
+            positions: nothing,
+        },
+        LentCatalogue {
+            identifiers,
+            identifier_ends,
+            bases,
+            base_ends,
+            marks,
+        },
         false,
         mode,
         remap,

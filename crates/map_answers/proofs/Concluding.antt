@@ -1,7 +1,9 @@
 -- What a search answers by the matches that it saw: its state, and entries set to zero.
+use Rattle.std.specs.Prelude.{Ok, Err}
 use mathlib.Core.Path.{◌≡◌, refl, sym, ap, ◌∙◌}
+use Rattle.promises.specs.declared.refusal.Refusal.TheVariants as refusals
 use mathlib.Core.List.{List, ◌++◌}
-use Prim.Native.Nat.{ℕ, zero, suc, ◌+◌, ◌-◌, ◌*◌, ◌/◌, ◌≤◌, ◌<◌}
+use Prim.Native.Nat.{ℕ, ◌+◌, ◌-◌, ◌*◌, ◌/◌, ◌≤◌, ◌<◌}
 use native.Mathlib.Omega.{arith}
 use lib.ListN.{length, drop, replicate, length-replicate}
 use lib.Seq.{drop_at, drop-drop}
@@ -11,14 +13,8 @@ use Rattle.buffers.proofs.Storing.{length-placed}
 use Rattle.map_every_start.specs.Entries.{entry_count, cleared}
 use Rattle.map_answers.specs.Answer.{state_number, state_of, Concluded}
 use Rattle.map_by_index.specs.declared.work.MappingWork.{MappingWork}
-use Rattle.map_answers.specs.declared.answer.MapAnswer.TheVariants as answers
 use Rattle.map_answers.specs.declared.answer.ReadState.{ReadState}
 use Rattle.map_answers.specs.declared.answer.ReadState.TheVariants as states
-
-pub state_many : (n : ℕ) → (n ≡ 0 → ⊥) → (n ≡ 1 → ⊥) → 5 ≡ state_of n
-state_many zero a b = absurd (a refl)
-state_many (suc zero) a b = absurd (b refl)
-state_many (suc (suc n)) a b = refl
 
 -- ---- entries set to zero
 
@@ -59,15 +55,15 @@ module _ (b : List ℕ) where
 -- ---- the answer by the matches seen
 
 module _ (limit bound : ℕ) (w : MappingWork) (b : List ℕ) where
-  pub conclude_few : w.seen ≤ bound → (state : ReadState) → state_number state ≡ state_of w.seen → Concluded limit bound w (answers.Mapped (record { state = state; groups = w.seen; work = w })) b b
+  pub conclude_few : w.seen ≤ bound → (state : ReadState) → state_number state ≡ state_of w.seen → Concluded limit bound w (Ok (record { state = state; groups = w.seen; work = w })) b b
   conclude_few h state e = record { answer = rw (le-ltb bound w.seen h, e); entries = rw (le-ltb bound w.seen h) }
 
   module _ (h : bound < w.seen) (b' : List ℕ) (e : b' ≡ cleared b) where
     same-room : entry_count b' ≡ entry_count b
     same-room = ap (λ l. entry_count l) e ∙ ap (λ n. n / 4) (length-cleared b)
 
-    pub conclude_short : entry_count b' < limit → Concluded limit bound w (answers.Refused 10) b b'
+    pub conclude_short : entry_count b' < limit → Concluded limit bound w (Err refusals.PlacementRoom) b b'
     conclude_short k = record { answer = rw (lt-ltb bound w.seen h, lt-ltb (entry_count b) limit (omega (arith, same-room))); entries = rw (lt-ltb bound w.seen h) e }
 
-    pub conclude_past : limit ≤ entry_count b' → Concluded limit bound w (answers.Mapped (record { state = states.Indeterminate; groups = 0; work = w })) b b'
+    pub conclude_past : limit ≤ entry_count b' → Concluded limit bound w (Ok (record { state = states.Indeterminate; groups = 0; work = w })) b b'
     conclude_past k = record { answer = rw (lt-ltb bound w.seen h, le-ltb (entry_count b) limit (omega (arith, same-room))); entries = rw (lt-ltb bound w.seen h) e }

@@ -1,14 +1,14 @@
 -- What a search answers, and what it leaves in the entries (REFERENCE.md, "Mapping").
-use Rattle.std.specs.Prelude.{◌≡◌, not, cond, ◌&&◌, List, [], ℕ, zero, suc, length, eqb, ltb}
-use Rattle.promises.specs.Refusal.{unless, Outcome, refused, accepted, outcome, if_passed}
+use Rattle.std.specs.Prelude.{◌≡◌, not, cond, ◌&&◌, List, [], ℕ, zero, suc, length, eqb, ltb, Result, Ok, Err}
+use Rattle.promises.specs.declared.refusal.Refusal.{Refusal}
+use Rattle.promises.specs.Refusal.{unless, Outcome, refused, accepted, outcome, if_passed, refusal_number}
 use Rattle.buffers.specs.Placed.{placed}
 use Rattle.map_places.specs.Place.{Place, groups}
 use Rattle.map_every_start.specs.Entries.{entries_of, entry_count, cleared}
 use Rattle.map_answers.specs.declared.answer.ReadState.{ReadState}
 use Rattle.map_answers.specs.declared.answer.ReadState.TheVariants as states
 use Rattle.map_by_index.specs.declared.work.MappingWork.{MappingWork}
-use Rattle.map_answers.specs.declared.answer.MapAnswer.{MapAnswer}
-use Rattle.map_answers.specs.declared.answer.MapAnswer.TheVariants as answers
+use Rattle.map_answers.specs.declared.answer.Mapping.{Mapping}
 
 -- ---- answers as data
 
@@ -31,9 +31,9 @@ abbrev pub row : ℕ → ℕ → MappingWork → Row
 row state groups work = record { state = state; groups = groups; work = work }
 
 -- what each answer stands for
-abbrev pub answer_of : MapAnswer → Outcome Row
-answer_of (answers.Refused n) = refused n
-answer_of (answers.Mapped m) = accepted (row (state_number m.state) m.groups m.work)
+abbrev pub answer_of : Result Mapping Refusal → Outcome Row
+answer_of (Err n) = refused (refusal_number n)
+answer_of (Ok m) = accepted (row (state_number m.state) m.groups m.work)
 
 -- ---- the groups of a read
 
@@ -71,17 +71,17 @@ abbrev pub read_entries : ℕ → List ℕ → ℕ → ℕ → List Place → Li
 read_entries refusal ranked n limit gs buffer = entries_after refusal (entries_of ranked n (listed limit gs)) buffer
 
 -- a call answers with an outcome, and leaves numbers in the entries
-pub record Leaves (outcome : Outcome Row) (numbers : List ℕ) (r : MapAnswer) (buffer' : List ℕ) : Type 0 where
+pub record Leaves (outcome : Outcome Row) (numbers : List ℕ) (r : Result Mapping Refusal) (buffer' : List ℕ) : Type 0 where
   pub answer : answer_of r ≡ outcome
   pub entries : buffer' ≡ numbers
 
-abbrev pub Answered : ℕ → List ℕ → ℕ → ℕ → List Place → MappingWork → MapAnswer → List ℕ → List ℕ → Type 0
+abbrev pub Answered : ℕ → List ℕ → ℕ → ℕ → List Place → MappingWork → Result Mapping Refusal → List ℕ → List ℕ → Type 0
 Answered refusal ranked n limit gs w r buffer buffer' = Leaves (read_answer refusal limit gs w) (read_entries refusal ranked n limit gs buffer) r buffer'
 
 -- ---- the answer of a search
 
 -- the answer by the matches seen under a bound, and the entries set to zero where there are more
-pub record Concluded (limit bound : ℕ) (w : MappingWork) (r : MapAnswer) (buffer buffer' : List ℕ) : Type 0 where
+pub record Concluded (limit bound : ℕ) (w : MappingWork) (r : Result Mapping Refusal) (buffer buffer' : List ℕ) : Type 0 where
   pub answer :
       answer_of r ≡ cond (ltb bound w.seen) (cond (ltb (entry_count buffer) limit) (refused 10) (accepted (row 2 0 w))) (accepted (row (state_of w.seen) w.seen w))
   pub entries : buffer' ≡ cond (ltb bound w.seen) (cleared buffer) buffer

@@ -22,23 +22,15 @@ pub struct Mapping {
     pub work: MappingWork,
 }
 
-#[derive(Clone, Copy)]
-pub enum MapAnswer {
-    Refused(u64),
-    Mapped(Mapping),
-}
-
 // The state of a read by the number of its groups.
 pub(crate) fn state_of(groups: usize) -> ReadState
     ensures { state_number result ≡ state_of groups }
 {
-    if groups == 0 {
-        return ReadState::Unmapped;
+    match groups {
+        0 => ReadState::Unmapped,
+        1 => ReadState::Single,
+        _ => ReadState::Multiple,
     }
-    if groups == 1 {
-        return ReadState::Single;
-    }
-    ReadState::Multiple
 }
 
 // The number of a state.

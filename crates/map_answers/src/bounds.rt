@@ -17,8 +17,5 @@ pub fn length_right(read: &[u8]) -> bool
 pub fn limit_right(limit: u64) -> bool
     ensures { result ≡ limit_right limit }
 {
-    if limit < 1 {
-        return false;
-    }
-    limit <= MAX_LIMIT
+    (1..=MAX_LIMIT).contains(&limit)
 }

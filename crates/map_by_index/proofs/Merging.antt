@@ -27,7 +27,7 @@ use Rattle.map_candidates.specs.declared.cursor.Candidate.{Candidate}
 use Rattle.map_candidates.specs.declared.sides.Sides.{Sides}
 use Rattle.map_candidates.proofs.Candidates.{candidates_ascending, comparable-∈}
 use Rattle.map_every_start.specs.Searched.{max_count, Going, Searched}
-use Rattle.map_every_start.proofs.Going.{place_differs, Progress, searched_bounded, progress_none, progress_length, progress_going, progress_more, progress_stop}
+use Rattle.map_every_start.proofs.Going.{place_differs, Progress, searched_bounded, progress_none, progress_going, progress_more, progress_stop}
 use Rattle.map_skip.specs.Passing.{place_of, first_of, PassedOne, PassedOver}
 use Rattle.map_skip.proofs.Siding.{steps_fold}
 use Rattle.map_by_index.specs.Work.{on_strand}
@@ -98,9 +98,6 @@ module _ (q : ℕ) (ss : List (List ℕ)) (ranked read : List ℕ) (bound : ℕ)
     -- ---- the next place
 
     module _ (sides : Sides) (c s : ℕ) (b : List ℕ) (at : Both sides c s b) where
-      pub both_length : length b ≡ length buffer
-      both_length = progress_length ss ranked read bound 0 0 buffer max_count going at.done c s b at.progress
-
       abbrev plus_place : Place
       plus_place = place sides.plus.rank sides.plus.start 0
 

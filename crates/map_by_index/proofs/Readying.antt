@@ -15,7 +15,6 @@ use Rattle.index_model.proofs.Sequencing.{ranked_many}
 use Rattle.map_places.specs.Place.{max_read}
 use Rattle.map_candidates.specs.Search.{offset_count, Rarest}
 use Rattle.map_candidates.specs.Cursor.{CursorIn, CursorsIn}
-use Rattle.map_rarest_seed.specs.Shown.{ChoiceLent}
 use Rattle.map_rarest_seed.specs.declared.SeedChoice.{SeedChoice}
 use Rattle.map_candidates.specs.declared.sides.Sides.{Sides}
 use Rattle.map_by_index.specs.Steps.{IndexSearchable, Spans}
@@ -29,18 +28,6 @@ length-numbers k (suc n) = ap suc (length-numbers (suc k) n)
 module _ (q : ℕ) (bases ends ranked ks rs os read : List ℕ) (ready : IndexSearchable q bases ends ranked ks rs os read) (long : q ≤ length read) where
   abbrev ss : List (List ℕ)
   ss = ranked_sequences bases ends ranked
-
-  -- what the choice of a seed is lent
-  pub ready_choice : ChoiceLent q bases ends ranked ks rs os read
-  ready_choice =
-      record {
-        lent = ready.searchable.lent;
-        seed = ready.seed;
-        indexed = ready.indexed;
-        letters_right = ready.searchable.letters;
-        long = long;
-        short = ready.searchable.short;
-      }
 
   ready_few : length (index_of q (ranked_sequences bases ends ranked)) ≤ max_starts
   ready_few = index_few q bases ends ranked ready.seed.some ready.searchable.lent

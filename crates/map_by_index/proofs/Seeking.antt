@@ -1,5 +1,5 @@
 -- The chosen seeds of a read, by the columns of the index.
-use mathlib.Core.Path.{◌≡◌, refl, ap, ap₂, ◌∙◌}
+use mathlib.Core.Path.{◌≡◌, ap, ap₂, ◌∙◌}
 use mathlib.Core.List.{List, [], ◌∷◌}
 use Prim.Native.Nat.{ℕ, suc, ◌-◌, ◌*◌, ◌≤◌, ◌<◌}
 use native.Mathlib.Omega.{arith}
@@ -8,7 +8,7 @@ use lib.Dec.{eqb}
 use borrow.Author.Tests.{ltb-true, le-ltb}
 use Rattle.lists.specs.Filter.{filter}
 use Rattle.lists.specs.Cut.{window}
-use Rattle.lists.proofs.Cases.{by_test, and-true}
+use Rattle.lists.proofs.Cases.{and-true}
 use Rattle.lists.proofs.Filter.{length_filter}
 use Rattle.lists.proofs.Member.{get_or-∈}
 use Rattle.lists.proofs.Sort.{length_merge}

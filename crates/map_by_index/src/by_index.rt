@@ -1,11 +1,13 @@
 // The search by index: the candidates of both strands, the smaller one compared first.
 ghost use Rattle.std.specs.Prelude.{◌≡◌, ◌+◌, ◌*◌, ◌≤◌, length};
-ghost use Rattle.index_model.specs.Index.{lent_sequences};
+ghost use Rattle.index_model.specs.Index.{sequences_in};
 ghost use Rattle.map_every_start.specs.Searched.{max_count};
 ghost use Rattle.map_by_index.specs.Work.{by_index};
 ghost use Rattle.map_by_index.specs.Steps.{IndexSearchable, Front, Found, index_work, Spans};
 
 use crate::work::{MappingWork, work_of};
+use index_columns::LentIndex;
+use index_model::ranked::RankedTargets;
 use map_candidates::cursor::OrientationCursor;
 use map_candidates::sides::{Sides, first_candidates};
 use map_every_start::visit::{Tally, visit};
@@ -55,38 +57,28 @@ fn counted(tally: Tally, n: usize) -> Tally
 // strand begins near a place that is told.
 pub fn search_index(
     entries: &mut [u64],
-    bases: &[u8],
-    ends: &[usize],
-    ranked: &[usize],
-    keys: &[u64],
-    ranks: &[u64],
-    positions: &[u64],
+    targets: RankedTargets<'_>,
+    index: LentIndex<'_>,
     q: usize,
     read: &[u8],
     bound: usize,
     plus_near: usize,
     minus_near: usize,
 ) -> MappingWork
-    requires index_searchable { IndexSearchable q bases.now ends.now ranked.now keys.now ranks.now positions.now read.now }
+    requires index_searchable { IndexSearchable q targets.bases.now targets.ends.now targets.ranked.now index.keys.now index.ranks.now index.positions.now read.now }
     requires q_in_bounds { (q ≤ length read.now) × (4 * bound ≤ length entries.old) }
-    ensures { Found (by_index q) (lent_sequences bases.now ends.now ranked.now) ranked.now read.now bound result entries.old entries.new }
+    ensures { Found (by_index q) (sequences_in targets.entry) targets.entry.ranked.now read.now bound result entries.old entries.new }
 {
-    let plus = rarest_seed(
-        bases, ends, ranked, keys, ranks, positions, q, read, 0, plus_near,
-    );
-    let minus = rarest_seed(
-        bases, ends, ranked, keys, ranks, positions, q, read, 1, minus_near,
-    );
+    let plus = rarest_seed(targets, index, q, read, 0, plus_near);
+    let minus = rarest_seed(targets, index, q, read, 1, minus_near);
     let forward = cursor_over(0, plus);
     let backward = cursor_over(1, minus);
     let mut sides = first_candidates(
         forward,
         backward,
-        bases,
-        ends,
-        ranked,
-        ranks,
-        positions,
+        targets,
+        index.ranks,
+        index.positions,
         read.len(),
     );
     let mut tally = Tally {
@@ -100,9 +92,7 @@ pub fn search_index(
         let cursor = next.cursor;
         tally = visit(
             entries,
-            bases,
-            ends,
-            ranked,
+            targets,
             read,
             bound,
             next.rank,
@@ -115,15 +105,19 @@ pub fn search_index(
         }
         sides = sides.moved(
             plus_first,
-            bases,
-            ends,
-            ranked,
-            ranks,
-            positions,
+            targets,
+            index.ranks,
+            index.positions,
             read.len(),
         );
         let passed = pass(
-            look, next, sides, bases, ends, ranked, ranks, positions, read,
+            look,
+            next,
+            sides,
+            targets,
+            index.ranks,
+            index.positions,
+            read,
         );
         sides = passed.sides;
         tally = counted(tally, passed.count);

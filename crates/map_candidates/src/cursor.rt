@@ -1,11 +1,11 @@
 // The candidates of a seed's postings, one after the other.
 ghost use Rattle.std.specs.Prelude.{◌≡◌, length};
-ghost use Rattle.index_model.specs.Index.{Lent, lent_sequences};
+ghost use Rattle.index_model.specs.Index.{Lent, sequences_in};
 ghost use Rattle.map_candidates.specs.Search.{fits};
 ghost use Rattle.map_candidates.specs.Cursor.{CursorIn, Taken};
 
 use index_lookup::read::{posting_position, posting_rank};
-use index_model::ranked::ranked_sequence;
+use index_model::ranked::{RankedTargets, ranked_sequence};
 
 // The postings from next up to end of a seed that stands at an offset of the read on a strand.
 #[derive(Clone, Copy)]
@@ -29,42 +29,32 @@ pub struct Candidate {
 pub fn has_room(sequence: &[u8], n: usize, offset: usize, position: usize) -> bool
     ensures { result ≡ fits sequence.now n offset position }
 {
-    if position < offset {
-        return false;
-    }
-    if sequence.len() < n {
-        return false;
-    }
-    position - offset <= sequence.len() - n
+    offset <= position && n <= sequence.len() && position - offset <= sequence.len() - n
 }
 
 impl OrientationCursor {
     // Moves on behind the next posting whose candidate, of n bases, lies within its target, or to the end.
     pub fn next_candidate(
         self,
-        bases: &[u8],
-        ends: &[usize],
-        ranked: &[usize],
+        targets: RankedTargets<'_>,
         ranks: &[u64],
         positions: &[u64],
         n: usize,
     ) -> Candidate
-        requires { Lent bases.now ends.now ranked.now × CursorIn ranks.now positions.now (length ranked.now) self.next self.end }
-        ensures { Taken (lent_sequences bases.now ends.now ranked.now) n ranks.now positions.now self result }
+        requires { Lent targets.bases.now targets.ends.now targets.ranked.now × CursorIn ranks.now positions.now (length targets.ranked.now) self.next self.end }
+        ensures { Taken (sequences_in targets.entry) n ranks.now positions.now self result }
     {
-        let mut i = self.next;
-        while i < self.end {
+        for i in self.next..self.end {
             let rank = posting_rank(ranks, i);
             let position = posting_position(positions, i);
-            let sequence = ranked_sequence(bases, ends, ranked, rank);
-            i += 1;
+            let sequence = ranked_sequence(targets, rank);
             if has_room(sequence, n, self.offset, position) {
                 let start = position - self.offset;
                 return Candidate {
                     cursor: OrientationCursor {
                         strand: self.strand,
                         offset: self.offset,
-                        next: i,
+                        next: i + 1,
                         end: self.end,
                     },
                     found: true,

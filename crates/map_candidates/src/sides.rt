@@ -1,9 +1,10 @@
 // The two cursors of a search, each with the candidate that waits on it.
 ghost use Rattle.std.specs.Prelude.{◌≡◌, ◌||◌, cond, length};
-ghost use Rattle.index_model.specs.Index.{Lent, lent_sequences};
+ghost use Rattle.index_model.specs.Index.{Lent, sequences_in};
 ghost use Rattle.map_candidates.specs.Cursor.{CursorsIn, plus_first, BothTaken, OneMoved};
 
 use crate::cursor::{Candidate, OrientationCursor};
+use index_model::ranked::RankedTargets;
 
 #[derive(Clone, Copy)]
 pub struct Sides {
@@ -15,18 +16,16 @@ pub struct Sides {
 pub fn first_candidates(
     plus: OrientationCursor,
     minus: OrientationCursor,
-    bases: &[u8],
-    ends: &[usize],
-    ranked: &[usize],
+    targets: RankedTargets<'_>,
     ranks: &[u64],
     positions: &[u64],
     n: usize,
 ) -> Sides
-    requires { Lent bases.now ends.now ranked.now × CursorsIn ranks.now positions.now (length ranked.now) plus minus }
-    ensures { BothTaken (lent_sequences bases.now ends.now ranked.now) n ranks.now positions.now plus minus result }
+    requires { Lent targets.bases.now targets.ends.now targets.ranked.now × CursorsIn ranks.now positions.now (length targets.ranked.now) plus minus }
+    ensures { BothTaken (sequences_in targets.entry) n ranks.now positions.now plus minus result }
 {
-    let forward = plus.next_candidate(bases, ends, ranked, ranks, positions, n);
-    let backward = minus.next_candidate(bases, ends, ranked, ranks, positions, n);
+    let forward = plus.next_candidate(targets, ranks, positions, n);
+    let backward = minus.next_candidate(targets, ranks, positions, n);
     Sides {
         plus: forward,
         minus: backward,
@@ -38,10 +37,7 @@ impl Sides {
     pub fn waits(self) -> bool
         ensures { result ≡ (self.plus.found || self.minus.found) }
     {
-        if self.plus.found {
-            return true;
-        }
-        self.minus.found
+        self.plus.found || self.minus.found
     }
 
     // Whether the candidate of '+' is the smaller one by rank, start and strand.
@@ -64,38 +60,33 @@ impl Sides {
     pub fn side(self, plus: bool) -> Candidate
         ensures { result ≡ cond plus self.plus self.minus }
     {
-        if plus {
-            return self.plus;
-        }
-        self.minus
+        if plus { self.plus } else { self.minus }
     }
 
     // One side moves on.
     pub fn moved(
         self,
         plus: bool,
-        bases: &[u8],
-        ends: &[usize],
-        ranked: &[usize],
+        targets: RankedTargets<'_>,
         ranks: &[u64],
         positions: &[u64],
         n: usize,
     ) -> Sides
-        requires { Lent bases.now ends.now ranked.now × CursorsIn ranks.now positions.now (length ranked.now) self.plus.cursor self.minus.cursor }
-        ensures { OneMoved (lent_sequences bases.now ends.now ranked.now) n ranks.now positions.now plus self result }
+        requires { Lent targets.bases.now targets.ends.now targets.ranked.now × CursorsIn ranks.now positions.now (length targets.ranked.now) self.plus.cursor self.minus.cursor }
+        ensures { OneMoved (sequences_in targets.entry) n ranks.now positions.now plus self result }
     {
         let forward = self.plus;
         let backward = self.minus;
         if plus {
             let cursor = forward.cursor;
-            let next = cursor.next_candidate(bases, ends, ranked, ranks, positions, n);
+            let next = cursor.next_candidate(targets, ranks, positions, n);
             return Sides {
                 plus: next,
                 minus: backward,
             };
         }
         let cursor = backward.cursor;
-        let next = cursor.next_candidate(bases, ends, ranked, ranks, positions, n);
+        let next = cursor.next_candidate(targets, ranks, positions, n);
         Sides {
             plus: forward,
             minus: next,

@@ -2,10 +2,11 @@
 #![tactic(auto)]
 
 ghost use Rattle.std.specs.Prelude.{◌≡◌, ◌-◌, ◌≤◌, length};
-ghost use Rattle.index_model.specs.Index.{Lent, lent_sequences};
+ghost use Rattle.index_model.specs.Index.{Lent, sequences_in};
 ghost use Rattle.map_candidates.specs.Cursor.{CursorIn};
 ghost use Rattle.map_cursor.specs.Advance.{raised_by, examined_more, step_on, Advanced};
 
+use index_model::ranked::RankedTargets;
 use map_by_index::work::MappingWork;
 use map_candidates::cursor::{Candidate, OrientationCursor};
 
@@ -61,18 +62,16 @@ fn counted(from: OrientationCursor, work: MappingWork, next: Candidate) -> Step
 pub fn advance(
     cursor: &mut OrientationCursor,
     work: &mut MappingWork,
-    bases: &[u8],
-    ends: &[usize],
-    ranked: &[usize],
+    targets: RankedTargets<'_>,
     ranks: &[u64],
     positions: &[u64],
     n: usize,
 ) -> Candidate
-    requires { Lent bases.now ends.now ranked.now × CursorIn ranks.now positions.now (length ranked.now) cursor.old.next cursor.old.end }
-    ensures { Advanced (lent_sequences bases.now ends.now ranked.now) n ranks.now positions.now cursor.old work.old result cursor.new work.new }
+    requires { Lent targets.bases.now targets.ends.now targets.ranked.now × CursorIn ranks.now positions.now (length targets.ranked.now) cursor.old.next cursor.old.end }
+    ensures { Advanced (sequences_in targets.entry) n ranks.now positions.now cursor.old work.old result cursor.new work.new }
 {
     let from = *cursor;
-    let next = from.next_candidate(bases, ends, ranked, ranks, positions, n);
+    let next = from.next_candidate(targets, ranks, positions, n);
     let step = counted(from, *work, next);
     *cursor = step.cursor;
     *work = step.work;
@@ -83,19 +82,17 @@ pub fn advance(
 pub fn advanced(
     cursor: OrientationCursor,
     work: MappingWork,
-    bases: &[u8],
-    ends: &[usize],
-    ranked: &[usize],
+    targets: RankedTargets<'_>,
     ranks: &[u64],
     positions: &[u64],
     n: usize,
 ) -> Step
-    requires { Lent bases.now ends.now ranked.now × CursorIn ranks.now positions.now (length ranked.now) cursor.next cursor.end }
-    ensures { Advanced (lent_sequences bases.now ends.now ranked.now) n ranks.now positions.now cursor work result.candidate result.cursor result.work }
+    requires { Lent targets.bases.now targets.ends.now targets.ranked.now × CursorIn ranks.now positions.now (length targets.ranked.now) cursor.next cursor.end }
+    ensures { Advanced (sequences_in targets.entry) n ranks.now positions.now cursor work result.candidate result.cursor result.work }
 {
     let mut c = cursor;
     let mut w = work;
-    let candidate = advance(&mut c, &mut w, bases, ends, ranked, ranks, positions, n);
+    let candidate = advance(&mut c, &mut w, targets, ranks, positions, n);
     Step {
         cursor: c,
         work: w,

@@ -1,4 +1,3 @@
-pub mod Clearing
 pub mod Going
 pub mod Scanning
 pub mod Visiting

@@ -9,7 +9,7 @@ use Rattle.index_seeds.specs.Window.{starts}
 use Rattle.catalogue.specs.Catalogue.{max_targets, max_bases}
 use Rattle.map_places.specs.Place.{Place, place, places_in, places_from, places}
 use Rattle.map_every_start.specs.Searched.{max_places, Going, Searched}
-use Rattle.map_every_start.proofs.Going.{Progress, progress_none, progress_length, progress_going, progress_more, progress_stop}
+use Rattle.map_every_start.proofs.Going.{Progress, progress_going, progress_more, progress_stop}
 
 -- ---- places, one start and one rank more
 
@@ -49,36 +49,25 @@ module _ (ss : List (List ℕ)) (ranked read : List ℕ) (bound rank : ℕ) (com
     pub upto : start ≤ starts (length read) (get_or ss rank [])
     pub progress : Progress ss ranked read bound comparisons seen buffer (places_in rank 0 start) c s b
 
-  module _ (g : Going bound max_places comparisons seen buffer) where
-    pub starts_none : StartsTo 0 comparisons seen buffer
-    starts_none = record { upto = omega arith; progress = progress_none ss ranked read bound comparisons seen buffer max_places g }
+  module _ (g : Going bound max_places comparisons seen buffer) (long : length (get_or ss rank []) ≤ max_bases) (start c s : ℕ) (b : List ℕ) (at : StartsTo start c s b) (fits : start + length read ≤ length (get_or ss rank [])) where
+    pub starts_going : Going bound 2 c s b
+    starts_going = progress_going ss ranked read bound comparisons seen buffer max_places g (places_in rank 0 start) c s b at.progress 2 (omega (arith, length-places_in rank 0 start))
 
-    pub starts-length : (start c s : ℕ) (b : List ℕ) → StartsTo start c s b → length b ≡ length buffer
-    starts-length start c s b at = progress_length ss ranked read bound comparisons seen buffer max_places g (places_in rank 0 start) c s b at.progress
+    module _ (c' s' : ℕ) (b' : List ℕ) (t : Searched ss ranked read bound (place rank start 0 ∷ place rank start 1 ∷ []) c s b c' s' b') where
+      one_start : places_in rank 0 start ++ (place rank start 0 ∷ place rank start 1 ∷ []) ≡ places_in rank 0 (start + 1)
+      one_start = let e : 0 + start ≡ start = omega arith in ap (λ j. places_in rank 0 start ++ places_in rank j 1) (sym e) ∙ sym (places_in-split rank 0 start 1)
 
-    module _ (long : length (get_or ss rank []) ≤ max_bases) (start c s : ℕ) (b : List ℕ) (at : StartsTo start c s b) where
-      module _ (fits : start + length read ≤ length (get_or ss rank [])) where
-        pub starts_going : Going bound 2 c s b
-        starts_going = progress_going ss ranked read bound comparisons seen buffer max_places g (places_in rank 0 start) c s b at.progress 2 (omega (arith, length-places_in rank 0 start))
+      pub starts-stop : bound < s' → Searched ss ranked read bound (places_in rank 0 (starts (length read) (get_or ss rank []))) comparisons seen buffer c' s' b'
+      starts-stop h =
+          let e : starts (length read) (get_or ss rank []) ≡ start + 1 + (starts (length read) (get_or ss rank []) - (start + 1)) = omega (arith, at.upto) in
+          rw (e, places_in-split rank 0 (start + 1), ← one_start) (progress_stop ss ranked read bound comparisons seen buffer max_places g (places_in rank 0 start) c s b at.progress (place rank start 0 ∷ place rank start 1 ∷ []) c' s' b' t h _)
 
-        module _ (c' s' : ℕ) (b' : List ℕ) (t : Searched ss ranked read bound (place rank start 0 ∷ place rank start 1 ∷ []) c s b c' s' b') where
-          one_start : places_in rank 0 start ++ (place rank start 0 ∷ place rank start 1 ∷ []) ≡ places_in rank 0 (start + 1)
-          one_start = let e : 0 + start ≡ start = omega arith in ap (λ j. places_in rank 0 start ++ places_in rank j 1) (sym e) ∙ sym (places_in-split rank 0 start 1)
-
-          pub starts-stop : bound < s' → Searched ss ranked read bound (places_in rank 0 (starts (length read) (get_or ss rank []))) comparisons seen buffer c' s' b'
-          starts-stop h =
-              let e : starts (length read) (get_or ss rank []) ≡ start + 1 + (starts (length read) (get_or ss rank []) - (start + 1)) = omega (arith, at.upto) in
-              rw (e, places_in-split rank 0 (start + 1), ← one_start) (progress_stop ss ranked read bound comparisons seen buffer max_places g (places_in rank 0 start) c s b at.progress (place rank start 0 ∷ place rank start 1 ∷ []) c' s' b' t h _)
-
-          pub starts_more : s' ≤ bound → StartsTo (start + 1) c' s' b'
-          starts_more h =
-              record {
-                upto = omega arith;
-                progress = rw (← one_start) (progress_more ss ranked read bound comparisons seen buffer max_places g (places_in rank 0 start) c s b at.progress (place rank start 0 ∷ place rank start 1 ∷ []) c' s' b' t h);
-              }
-
-      pub starts_all : length (get_or ss rank []) < start + length read → Searched ss ranked read bound (places_in rank 0 (starts (length read) (get_or ss rank []))) comparisons seen buffer c s b
-      starts_all h = let e : starts (length read) (get_or ss rank []) ≡ start = omega (arith, at.upto) in rw e at.progress.searched
+      pub starts_more : s' ≤ bound → StartsTo (start + 1) c' s' b'
+      starts_more h =
+          record {
+            upto = omega arith;
+            progress = rw (← one_start) (progress_more ss ranked read bound comparisons seen buffer max_places g (places_in rank 0 start) c s b at.progress (place rank start 0 ∷ place rank start 1 ∷ []) c' s' b' t h);
+          }
 
 -- ---- rank by rank
 
@@ -92,12 +81,6 @@ module _ (ss : List (List ℕ)) (ranked read : List ℕ) (bound : ℕ) (buffer :
   module _ (given : Going bound 0 0 0 buffer) where
     g : Going bound (max_targets * max_places) 0 0 buffer
     g = record { within = given.within; room = given.room; countable = omega arith }
-
-    pub ranks_none : RanksTo 0 0 0 buffer
-    ranks_none = record { upto = omega arith; counted = omega arith; progress = progress_none ss ranked read bound 0 0 buffer (max_targets * max_places) g }
-
-    pub ranks_length : (rank c s : ℕ) (b : List ℕ) → RanksTo rank c s b → length b ≡ length buffer
-    ranks_length rank c s b at = progress_length ss ranked read bound 0 0 buffer (max_targets * max_places) g (places_from 0 (length read) (take rank ss)) c s b at.progress
 
     module _ (few : length ss ≤ max_targets) (rank c s : ℕ) (b : List ℕ) (at : RanksTo rank c s b) where
       abbrev done : List Place

@@ -1,10 +1,10 @@
 // One place of a read: compared, counted, and entered where the read matches.
 ghost use Rattle.std.specs.Prelude.{◌≡◌, ◌+◌, ◌≤◌, length};
-ghost use Rattle.index_model.specs.Index.{lent_sequences};
+ghost use Rattle.index_model.specs.Index.{sequences_in};
 ghost use Rattle.map_every_start.specs.Searched.{max_count, Searchable, FitsAt, Going, PlaceSearched};
 
 use crate::entries::write_entry;
-use index_model::ranked::ranked_sequence;
+use index_model::ranked::{RankedTargets, ranked_sequence};
 use map_places::stands_at;
 
 // The places compared so far, and the matches among them.
@@ -25,9 +25,7 @@ fn end_of(start: usize, read: &[u8]) -> usize
 // Compares a read at a place. A match within the bound is entered behind those seen before.
 pub fn visit(
     entries: &mut [u64],
-    bases: &[u8],
-    ends: &[usize],
-    ranked: &[usize],
+    targets: RankedTargets<'_>,
     read: &[u8],
     bound: usize,
     rank: usize,
@@ -35,13 +33,13 @@ pub fn visit(
     strand: u64,
     tally: Tally,
 ) -> Tally
-    requires searchable { Searchable bases.now ends.now ranked.now read.now }
-    requires fits_at { FitsAt bases.now ends.now ranked.now read.now rank start strand × Going bound 1 tally.comparisons tally.seen entries.old }
-    ensures { PlaceSearched (lent_sequences bases.now ends.now ranked.now) ranked.now read.now bound rank start strand tally entries.old result entries.new }
+    requires searchable { Searchable targets.bases.now targets.ends.now targets.ranked.now read.now }
+    requires fits_at { FitsAt targets.bases.now targets.ends.now targets.ranked.now read.now rank start strand × Going bound 1 tally.comparisons tally.seen entries.old }
+    ensures { PlaceSearched (sequences_in targets.entry) targets.entry.ranked.now read.now bound rank start strand tally entries.old result entries.new }
 {
     let comparisons = tally.comparisons + 1;
     let seen = tally.seen;
-    let sequence = ranked_sequence(bases, ends, ranked, rank);
+    let sequence = ranked_sequence(targets, rank);
     if !stands_at(sequence, start, read, strand) {
         return Tally { comparisons, seen };
     }
@@ -51,7 +49,7 @@ pub fn visit(
             seen: seen + 1,
         };
     }
-    let target = ranked[rank];
+    let target = targets.ranked[rank];
     let end = end_of(start, read);
     write_entry(entries, seen, target, start, end, strand);
     Tally {

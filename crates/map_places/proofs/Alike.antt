@@ -17,7 +17,7 @@ use Rattle.bases.proofs.Bytes.{letter_capital}
 use Rattle.index_seeds.specs.Key.{key_of}
 use Rattle.index_seeds.specs.Window.{window_of}
 use Rattle.index_seeds.proofs.Keying.{key_more}
-use Rattle.map_places.specs.Agreeing.{agreeing, Reach, Agreed}
+use Rattle.map_places.specs.Agreeing.{agreeing, Reach}
 
 module _ (a : List ℕ) (i : ℕ) (b : List ℕ) (j : ℕ) where
   abbrev Same : ℕ → Type 0
@@ -58,10 +58,6 @@ agree_part a i b j n e k t h =
     let g : j + (e + m) ≡ j + e + m = omega arith in
     ap (λ x. code_of (get_or a x 0)) (sym f) ∙ agree_each a i b j n t (e + m) (omega arith) ∙ ap (λ x. code_of (get_or b x 0)) g))
 
--- one base more
-pub agreed_one : (s : List ℕ) (at : ℕ) (b : List ℕ) (from most k : ℕ) → Agreed s at b from most k → k < most → eqb (code_of (get_or s (at + k) 0)) (code_of (get_or b (from + k) 0)) ≡ true → Agreed s at b from most (k + 1)
-agreed_one s at b from most k a h e = record { few = omega arith; agree = rw (add-one k, a.agree, e) }
-
 -- ---- keys
 
 -- seeds that agree have one key
@@ -98,7 +94,3 @@ letters_there s at read from n r k h =
       letter_right = letter_capital (get_or s (at + k) 0) (every_at is_capital 0 s r.sequence (at + k) (omega (arith, r.in_sequence)));
       letters_right = r.read_right;
     }
-
--- a part of what is there
-pub reach_part : (s : List ℕ) (at : ℕ) (read : List ℕ) (from n : ℕ) → Reach s at read from n → (k m : ℕ) → k + m ≤ n → Reach s (at + k) read (from + k) m
-reach_part s at read from n r k m h = record { sequence = r.sequence; read_right = r.read_right; in_sequence = omega (arith, r.in_sequence); in_read = omega (arith, r.in_read) }

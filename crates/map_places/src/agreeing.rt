@@ -14,10 +14,8 @@ fn stretch_agrees(sequence: &[u8], at: usize, read: &[u8], strand: u64, from: us
     ensures { result ≡ agreeing stretch sequence.now at (oriented strand read.now) from }
 {
     let mut agree = true;
-    let mut k: usize = 0;
-    while k < STRETCH {
+    for k in 0..STRETCH {
         agree = agree & oriented_agrees(sequence[at + k], read, strand, from + k);
-        k += 1;
     }
     agree
 }
@@ -56,12 +54,11 @@ pub fn agreement(
     requires { Reach sequence.now at read.now from most }
     ensures { Agreed sequence.now at (oriented strand read.now) from most result }
 {
-    let mut k = whole_stretches(sequence, at, read, strand, from, most);
-    while k < most {
+    let whole = whole_stretches(sequence, at, read, strand, from, most);
+    for k in whole..most {
         if !oriented_agrees(sequence[at + k], read, strand, from + k) {
             return k;
         }
-        k += 1;
     }
-    k
+    most
 }

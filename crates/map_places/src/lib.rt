@@ -28,10 +28,8 @@ fn stretch_agrees(
     ensures { result ≡ stands_to end sequence.now start read.now strand }
 {
     let mut agree = true;
-    let mut i = from;
-    while i < end {
+    for i in from..end {
         agree = agree & oriented_agrees(sequence[start + i], read, strand, i);
-        i += 1;
     }
     agree
 }

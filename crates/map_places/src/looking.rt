@@ -6,8 +6,5 @@ ghost use Rattle.std.specs.Prelude.{◌≡◌, ◌||◌, ◌%◌, ltb, eqb};
 pub fn looks_again(shown: usize, at: usize) -> bool
     ensures { result ≡ (ltb 0 shown || eqb (at % 8) 0) }
 {
-    if 0 < shown {
-        return true;
-    }
-    at % 8 == 0
+    0 < shown || at % 8 == 0
 }

@@ -9,7 +9,9 @@ ghost use Rattle.map_rarest_seed.specs.Shown.{ChoiceLent};
 ghost use Rattle.map_rarest_seed.specs.Choosing.{Better, Counted};
 
 use bases::base::table;
+use index_columns::LentIndex;
 use index_lookup::lookup::{NOWHERE, Range, posting_range};
+use index_model::ranked::RankedTargets;
 use index_seeds::keys::key_at;
 use map_places::looking::looks_again;
 use showing::shown;
@@ -65,23 +67,19 @@ impl SeedChoice {
 // Looks the seeds of a read up, offset by offset, and stops after a lookup that finds none. Offsets that are known to have no fewer
 // postings are counted, and not looked up. The first lookup begins near a place that is told.
 pub fn rarest_seed(
-    bases: &[u8],
-    ends: &[usize],
-    ranked: &[usize],
-    keys: &[u64],
-    ranks: &[u64],
-    positions: &[u64],
+    targets: RankedTargets<'_>,
+    index: LentIndex<'_>,
     q: usize,
     read: &[u8],
     strand: u64,
     near: usize,
 ) -> SeedChoice
-    requires { ChoiceLent q bases.now ends.now ranked.now keys.now ranks.now positions.now read.now }
-    ensures { Rarest keys.now q (oriented strand read.now) result.offset result.start result.end result.lookups }
+    requires { ChoiceLent q targets.bases.now targets.ends.now targets.ranked.now index.keys.now index.ranks.now index.positions.now read.now }
+    ensures { Rarest index.entry.keys.now q (oriented strand read.now) result.offset result.start result.end result.lookups }
 {
     let table = table();
     let n = read.len() - q + 1;
-    let mut range = posting_range(keys, key_at(&table, read, strand, q, 0), near);
+    let mut range = posting_range(index.keys, key_at(&table, read, strand, q, 0), near);
     let mut best = SeedChoice {
         offset: 0,
         start: range.start,
@@ -96,11 +94,9 @@ pub fn rarest_seed(
         }
         let skip = shown(
             look,
-            bases,
-            ends,
-            ranked,
-            ranks,
-            positions,
+            targets,
+            index.ranks,
+            index.positions,
             range.start,
             range.end,
             q,
@@ -115,7 +111,7 @@ pub fn rarest_seed(
         if n <= o {
             return best;
         }
-        range = posting_range(keys, key_at(&table, read, strand, q, o), NOWHERE);
+        range = posting_range(index.keys, key_at(&table, read, strand, q, o), NOWHERE);
         best = best.or(o, range);
     }
     best

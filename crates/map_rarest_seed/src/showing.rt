@@ -1,11 +1,11 @@
 // How many offsets behind a seed have no fewer postings, as far as its own postings show.
 ghost use Rattle.bases.specs.Read.{oriented};
-ghost use Rattle.index_model.specs.Index.{lent_sequences};
+ghost use Rattle.index_model.specs.Index.{sequences_in};
 ghost use Rattle.map_rarest_seed.specs.Shown.{PostingLent, Behind, ShowLent, Shown};
 
 use buffers::least;
 use index_lookup::read::{posting_position, posting_rank};
-use index_model::ranked::ranked_sequence;
+use index_model::ranked::{RankedTargets, ranked_sequence};
 use map_places::agreeing::agreement;
 
 // The most postings, and the most bases behind each, that are looked at: no more than a lookup costs.
@@ -15,9 +15,7 @@ const MOST_BASES: usize = 128;
 
 // How many bases behind a posting agree with those behind the seed at offset o, up to a bound and to the target's last base.
 fn behind_posting(
-    bases: &[u8],
-    ends: &[usize],
-    ranked: &[usize],
+    targets: RankedTargets<'_>,
     rank: usize,
     position: usize,
     q: usize,
@@ -26,10 +24,10 @@ fn behind_posting(
     o: usize,
     most: usize,
 ) -> usize
-    requires { PostingLent bases.now ends.now ranked.now rank position q read.now o most }
-    ensures { Behind q (lent_sequences bases.now ends.now ranked.now) rank position (oriented strand read.now) o most result }
+    requires { PostingLent targets.bases.now targets.ends.now targets.ranked.now rank position q read.now o most }
+    ensures { Behind q (sequences_in targets.entry) rank position (oriented strand read.now) o most result }
 {
-    let sequence = ranked_sequence(bases, ends, ranked, rank);
+    let sequence = ranked_sequence(targets, rank);
     let at = position + q;
     let room = least(most, sequence.len() - at);
     agreement(sequence, at, read, strand, o + q, room)
@@ -37,9 +35,7 @@ fn behind_posting(
 
 // How many bases agree behind each posting from start up to end.
 fn behind_all(
-    bases: &[u8],
-    ends: &[usize],
-    ranked: &[usize],
+    targets: RankedTargets<'_>,
     ranks: &[u64],
     positions: &[u64],
     start: usize,
@@ -50,21 +46,17 @@ fn behind_all(
     o: usize,
     most: usize,
 ) -> usize
-    requires { ShowLent q bases.now ends.now ranked.now ranks.now positions.now read.now o start end most }
-    ensures { Shown q (lent_sequences bases.now ends.now ranked.now) ranks.now positions.now (oriented strand read.now) o start end most result }
+    requires { ShowLent q targets.bases.now targets.ends.now targets.ranked.now ranks.now positions.now read.now o start end most }
+    ensures { Shown q (sequences_in targets.entry) ranks.now positions.now (oriented strand read.now) o start end most result }
 {
     let mut left = most;
-    let mut i = start;
-    while i < end {
+    for i in start..end {
         if left == 0 {
             return 0;
         }
         let rank = posting_rank(ranks, i);
         let position = posting_position(positions, i);
-        left = behind_posting(
-            bases, ends, ranked, rank, position, q, read, strand, o, left,
-        );
-        i += 1;
+        left = behind_posting(targets, rank, position, q, read, strand, o, left);
     }
     left
 }
@@ -72,9 +64,7 @@ fn behind_all(
 // How many of the `most` offsets behind offset o are known to have no fewer postings than the seed there; none if nobody looks.
 pub fn shown(
     look: bool,
-    bases: &[u8],
-    ends: &[usize],
-    ranked: &[usize],
+    targets: RankedTargets<'_>,
     ranks: &[u64],
     positions: &[u64],
     start: usize,
@@ -85,17 +75,14 @@ pub fn shown(
     o: usize,
     most: usize,
 ) -> usize
-    requires { ShowLent q bases.now ends.now ranked.now ranks.now positions.now read.now o start end most }
-    ensures { Shown q (lent_sequences bases.now ends.now ranked.now) ranks.now positions.now (oriented strand read.now) o start end most result }
+    requires { ShowLent q targets.bases.now targets.ends.now targets.ranked.now ranks.now positions.now read.now o start end most }
+    ensures { Shown q (sequences_in targets.entry) ranks.now positions.now (oriented strand read.now) o start end most result }
 {
-    if !look {
-        return 0;
-    }
-    if MOST_POSTINGS < end - start {
+    if !look || MOST_POSTINGS < end - start {
         return 0;
     }
     let bound = least(most, MOST_BASES);
     behind_all(
-        bases, ends, ranked, ranks, positions, start, end, q, read, strand, o, bound,
+        targets, ranks, positions, start, end, q, read, strand, o, bound,
     )
 }

@@ -1,4 +1,6 @@
 -- A search into a part of the entries: the part keeps its length, and comes back at its place.
+use Rattle.std.specs.Prelude.{Result}
+use Rattle.promises.specs.declared.refusal.Refusal.{Refusal}
 use mathlib.Core.Path.{◌≡◌, refl, sym, ap, ◌∙◌}
 use mathlib.Core.List.{List, ◌++◌, append_assoc}
 use Prim.Native.Nat.{ℕ, zero, suc, ◌+◌, ◌≤◌}
@@ -19,8 +21,8 @@ use Rattle.map_every_start.proofs.Going.{length-entries}
 use Rattle.map_by_index.specs.Work.{Way}
 use Rattle.map_answers.specs.Answer.{entries_after, listed, room_refusal, read_entries}
 use Rattle.map_search.specs.Answered.{SearchAnswered, PartSearched}
-use Rattle.map_answers.specs.declared.answer.MapAnswer.{MapAnswer}
 use Rattle.map_answers.proofs.Concluding.{length-cleared}
+use Rattle.map_answers.specs.declared.answer.Mapping.{Mapping}
 
 -- a part put back is a placed part
 part_back : (from width : ℕ) (b g : List ℕ) → from + width ≤ length b → length g ≡ width → put_mid from width b g ≡ placed from g b
@@ -47,7 +49,7 @@ read_entries-length refusal ranked n limit gs b f =
     after_length b refusal (entries_of ranked n (listed limit gs)) (λ z. let room = listed-room (entry_count b) limit gs (f z) in omega (arith, room, length-entries ranked n (listed limit gs)))
 
 -- a lent part of k numbers is back with the answer for a read
-pub part_searched : (way : Way) (ss : List (List ℕ)) (ranked read : List ℕ) (limit from width : ℕ) (r : MapAnswer) (b : List ℕ) → from + width ≤ length b → (k : ℕ) → k ≡ width → (g : List ℕ)
+pub part_searched : (way : Way) (ss : List (List ℕ)) (ranked read : List ℕ) (limit from width : ℕ) (r : Result Mapping Refusal) (b : List ℕ) → from + width ≤ length b → (k : ℕ) → k ≡ width → (g : List ℕ)
     → SearchAnswered way ss ranked read limit r (window b from k) g
     → PartSearched way ss ranked read limit from width r b (put_mid from k b g)
 part_searched way ss ranked read limit from width r b h k e g a =

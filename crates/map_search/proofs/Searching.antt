@@ -1,4 +1,6 @@
 -- The work of a search under any bound, and its answer.
+use Rattle.std.specs.Prelude.{Result}
+use Rattle.promises.specs.declared.refusal.Refusal.{Refusal}
 use mathlib.Core.Path.{◌≡◌, refl, ap, ◌∙◌}
 use mathlib.Core.Bool.{true, false, cond}
 use mathlib.Core.List.{List}
@@ -27,8 +29,8 @@ use Rattle.map_answers.specs.Answer.{answer_of, row, state_of, room_refusal, Con
 use Rattle.map_search.specs.Answered.{SearchAnswered}
 use Rattle.map_by_index.specs.Steps.{Found}
 use Rattle.map_by_index.specs.declared.work.MappingWork.{MappingWork}
-use Rattle.map_answers.specs.declared.answer.MapAnswer.{MapAnswer}
 use Rattle.map_answers.proofs.Concluding.{length-cleared, length-listed, cleared_again}
+use Rattle.map_answers.specs.declared.answer.Mapping.{Mapping}
 
 -- ---- the work of a search under each bound
 
@@ -81,7 +83,7 @@ module _ (entries limit matched : ℕ) where
 
 -- ---- the answer
 
-module _ (ss : List (List ℕ)) (ranked read : List ℕ) (limit bound : ℕ) (way : Way) (bounded : Bounded (groups ss read) (λ n. work_by way ss read n)) (b b' b'' : List ℕ) (m : MappingWork) (r : MapAnswer) where
+module _ (ss : List (List ℕ)) (ranked read : List ℕ) (limit bound : ℕ) (way : Way) (bounded : Bounded (groups ss read) (λ n. work_by way ss read n)) (b b' b'' : List ℕ) (m : MappingWork) (r : Result Mapping Refusal) where
   abbrev gs : List Place
   gs = groups ss read
 

@@ -5,13 +5,13 @@ use mathlib.Core.List.{List}
 use mathlib.Core.Logic.{◌⊎◌, inl, inr}
 use Prim.Native.Nat.{ℕ, zero, suc, ◌<◌}
 use native.Mathlib.Omega.{arith}
-use Rattle.lists.proofs.Cases.{by_test, clash, and-true}
+use Rattle.lists.proofs.Cases.{by_test, clash}
 use Rattle.lists.proofs.Triple.{Before, before_test, test_before}
 use Rattle.map_places.specs.Place.{place, triple, before, matches}
-use Rattle.map_candidates.specs.Cursor.{CursorIn, CursorsIn, plus_first}
+use Rattle.map_candidates.specs.Cursor.{plus_first}
 use Rattle.map_candidates.specs.declared.cursor.Candidate.{Candidate}
 use Rattle.map_candidates.specs.declared.sides.Sides.{Sides}
-use Rattle.map_skip.specs.Passing.{place_of, first_of, Steps, PassedOne, PassedOver, SkippedOne, Skipped, Sooner}
+use Rattle.map_skip.specs.Passing.{place_of, Steps, PassedOne, PassedOver, SkippedOne, Skipped, Sooner}
 
 -- steps of one kind as steps of another
 steps_map : {A B : Type 0} (R : A → A → Type 0) (S : B → B → Type 0) (f : A → B) → ((a b : A) → R a b → S (f a) (f b)) → (k : ℕ) (a b : A) → Steps R k a b → Steps S k (f a) (f b)
@@ -22,23 +22,6 @@ steps_map R S f step (suc k) a b (m, (before_m, last)) = (f m, (steps_map R S f 
 pub steps_fold : {A : Type 0} (R : A → A → Type 0) (P : ℕ → A → Type 0) → ((k : ℕ) (a b : A) → P k a → R a b → P (suc k) b) → (k : ℕ) (a b : A) → P 0 a → Steps R k a b → P k b
 steps_fold R P step zero a b p e = rw e p
 steps_fold R P step (suc k) a b p (m, (before_m, last)) = step k m b (steps_fold R P step k a m p before_m) last
-
--- ---- the smaller candidate
-
-module _ (s : Sides) where
-  -- it waits, if one does
-  pub first_waits : (s.plus.found || s.minus.found) ≡ true → (first_of s).found ≡ true
-  first_waits w = by_test (plus_first s) (λ t. ap (λ b. (cond b s.plus s.minus).found) t ∙ (and-true s.plus.found _ t).0) (λ t. ap (λ b. (cond b s.plus s.minus).found) t ∙ other t)
-    where
-      other : plus_first s ≡ false → s.minus.found ≡ true
-      other t = by_test s.minus.found (λ f. f) (λ f. by_test s.plus.found (λ g. clash refl (rw (g, f) at t)) (λ g. clash (rw (g, f) at w) refl))
-
-  pub first_cursor : (rs os : List ℕ) (n : ℕ) → CursorsIn rs os n s.plus.cursor s.minus.cursor → CursorIn rs os n (first_of s).cursor.next (first_of s).cursor.end
-  first_cursor rs os n c = go (plus_first s)
-    where
-      go : (b : Bool) → CursorIn rs os n (cond b s.plus s.minus).cursor.next (cond b s.plus s.minus).cursor.end
-      go true = c.plus_in
-      go false = c.minus_in
 
 -- ---- candidates before the one of the other side
 

@@ -8,13 +8,12 @@ use native.Mathlib.Numerals.{add-one}
 use lib.ListN.{length, get_or}
 use lib.Dec.{leb}
 use borrow.Author.Tests.{leb-true}
-use Rattle.lists.proofs.Cases.{and-true}
+use Rattle.lists.proofs.Cases.{and-true, clash}
 use Rattle.index_seeds.specs.Window.{fits_in}
 use Rattle.map_places.specs.Place.{matches}
-use Rattle.map_candidates.specs.Search.{fits, lies}
+use Rattle.map_candidates.specs.Search.{fits}
 use Rattle.map_candidates.specs.Cursor.{Taken}
 use Rattle.map_candidates.specs.declared.cursor.Candidate.{Candidate}
-use Rattle.map_candidates.proofs.Moving.{passing_none, passing_found}
 use Rattle.map_skip.specs.Passing.{Skipped, Followed}
 
 -- the candidate of a side at a start, in front of posting i
@@ -34,9 +33,6 @@ module _ (ss : List (List ℕ)) (read rs os : List ℕ) (first : Candidate) (lim
     pub inside : start + length read ≤ length (get_or ss first.rank [])
     pub skipped : Skipped ss read rs os first.rank limit count first (candidate_at first start i)
 
-  pub passing_start : first.found ≡ true → first.start + length read ≤ length (get_or ss first.rank []) → Passing first.start first.cursor.next 0
-  passing_start f h = record { next = omega arith; inside = h; skipped = λ i. record { cursor = first.cursor; found = sym f i; rank = first.rank; start = first.start } }
-
   module _ (start i count : ℕ) (p : Passing start i count) (s : List ℕ) (is : s ≡ get_or ss first.rank []) (f : Followed s read rs os first.cursor first.rank limit start i) where
     lies_next : fits (get_or ss (get_or rs i 0) []) (length read) first.cursor.offset (get_or os i 0) ≡ true
     lies_next = rw (f.ranked, ← is) f.room
@@ -44,11 +40,23 @@ module _ (ss : List (List ℕ)) (read rs os : List ℕ) (first : Candidate) (lim
     taken_next : Taken ss (length read) rs os (candidate_at first start i).cursor (candidate_at first (get_or os i 0 - first.cursor.offset) (i + 1))
     taken_next =
         record {
-          moved = passing_found (lies ss (length read) first.cursor.offset) rs os i first.cursor.end i (passing_none (lies ss (length read) first.cursor.offset) rs os i first.cursor.end (omega (arith, f.inside))) first.cursor.offset first.rank (get_or os i 0 - first.cursor.offset) f.inside lies_next (sym f.ranked) refl;
+          moved = record {
+            found_first = λ e. rw last (record { from = omega arith; inside = f.inside; skipped = λ j h l. absurd (omega arith); here = lies_next });
+            found_rank = λ e. rw last (sym f.ranked);
+            found_start = λ e. rw last refl;
+            found_behind = λ e. omega arith;
+            none_left = λ e. clash refl e;
+            none_end = λ e. clash refl e;
+            none_rank = λ e. clash refl e;
+            none_start = λ e. clash refl e;
+          };
           strand_kept = refl;
           offset-kept = refl;
           end_kept = refl;
         }
+      where
+        last : i + 1 - 1 ≡ i
+        last = omega arith
 
     pub passing_next : (start' i' count' : ℕ) → start' ≡ get_or os i 0 - first.cursor.offset → i' ≡ i + 1 → count' ≡ count + 1 → Passing start' i' count'
     unfolding matches

@@ -3,13 +3,13 @@
 #![tactic(auto)]
 
 ghost use Rattle.std.specs.Prelude.{◌≤◌, length};
-ghost use Rattle.index_model.specs.Index.{lent_sequences};
+ghost use Rattle.index_model.specs.Index.{sequences_in};
 ghost use Rattle.map_places.specs.Place.{Laid};
 ghost use Rattle.map_every_start.specs.Searched.{Searchable};
 ghost use Rattle.map_skip.specs.Passing.{PassedOver, Skipped, Sooner, SaidToBeFollowed, CandidateLent, SidesLent};
 
 use index_lookup::read::{posting_position, posting_rank};
-use index_model::ranked::ranked_sequence;
+use index_model::ranked::{RankedTargets, ranked_sequence};
 use map_candidates::cursor::{Candidate, OrientationCursor, has_room};
 use map_candidates::sides::Sides;
 use map_places::differing::{differs_at, place_of_doubt};
@@ -32,10 +32,7 @@ pub struct Passed {
 fn limit_before(rank: usize, other: Candidate) -> usize
     ensures { Sooner rank result other }
 {
-    if !other.found {
-        return usize::MAX;
-    }
-    if rank < other.rank {
+    if !other.found || rank < other.rank {
         return usize::MAX;
     }
     if other.rank < rank {
@@ -61,39 +58,33 @@ fn is_followed(
     requires end_in_bounds { (cursor.end ≤ length ranks.now) × (cursor.end ≤ length positions.now) }
     ensures { SaidToBeFollowed result sequence.now read.now ranks.now positions.now cursor rank limit start i }
 {
-    if cursor.end <= i {
-        return false;
-    }
-    if limit <= start {
-        return false;
-    }
-    if posting_rank(ranks, i) != rank {
-        return false;
-    }
-    if !differs_at(sequence, start, read, cursor.strand, place) {
-        return false;
-    }
-    let position = posting_position(positions, i);
-    has_room(sequence, read.len(), cursor.offset, position)
+    i < cursor.end
+        && start < limit
+        && posting_rank(ranks, i) == rank
+        && differs_at(sequence, start, read, cursor.strand, place)
+        && has_room(
+            sequence,
+            read.len(),
+            cursor.offset,
+            posting_position(positions, i),
+        )
 }
 
 // Passes over the candidates of one side that differ at a place of the first one's sequence, up to a limit.
 fn pass_side(
     first: Candidate,
-    bases: &[u8],
-    ends: &[usize],
-    ranked: &[usize],
+    targets: RankedTargets<'_>,
     ranks: &[u64],
     positions: &[u64],
     read: &[u8],
     limit: usize,
     place: usize,
 ) -> SidePassed
-    requires searchable { Searchable bases.now ends.now ranked.now read.now }
-    requires candidate_lent { CandidateLent bases.now ends.now ranked.now ranks.now positions.now read.now first }
-    ensures { Skipped (lent_sequences bases.now ends.now ranked.now) read.now ranks.now positions.now first.rank limit result.count first result.candidate }
+    requires searchable { Searchable targets.bases.now targets.ends.now targets.ranked.now read.now }
+    requires candidate_lent { CandidateLent targets.bases.now targets.ends.now targets.ranked.now ranks.now positions.now read.now first }
+    ensures { Skipped (sequences_in targets.entry) read.now ranks.now positions.now first.rank limit result.count first result.candidate }
 {
-    let sequence = ranked_sequence(bases, ends, ranked, first.rank);
+    let sequence = ranked_sequence(targets, first.rank);
     let cursor = first.cursor;
     let mut start = first.start;
     let mut i = cursor.next;
@@ -126,32 +117,25 @@ pub fn pass(
     look: bool,
     compared: Candidate,
     sides: Sides,
-    bases: &[u8],
-    ends: &[usize],
-    ranked: &[usize],
+    targets: RankedTargets<'_>,
     ranks: &[u64],
     positions: &[u64],
     read: &[u8],
 ) -> Passed
-    requires searchable { Searchable bases.now ends.now ranked.now read.now }
-    requires sides_lent { SidesLent bases.now ends.now ranked.now ranks.now positions.now read.now compared sides }
-    ensures { PassedOver (lent_sequences bases.now ends.now ranked.now) read.now ranks.now positions.now result.count sides result.sides }
+    requires searchable { Searchable targets.bases.now targets.ends.now targets.ranked.now read.now }
+    requires sides_lent { SidesLent targets.bases.now targets.ends.now targets.ranked.now ranks.now positions.now read.now compared sides }
+    ensures { PassedOver (sequences_in targets.entry) read.now ranks.now positions.now result.count sides result.sides }
 {
-    if !look {
+    if !look || !sides.waits() {
         return Passed { sides, count: 0 };
     }
-    if !sides.waits() {
-        return Passed { sides, count: 0 };
-    }
-    let sequence = ranked_sequence(bases, ends, ranked, compared.rank);
+    let sequence = ranked_sequence(targets, compared.rank);
     let place = place_of_doubt(sequence, compared.start, read, compared.cursor.strand);
     let plus = sides.plus_first();
     let first = sides.side(plus);
     let other = sides.side(!plus);
     let limit = limit_before(first.rank, other);
-    let passed = pass_side(
-        first, bases, ends, ranked, ranks, positions, read, limit, place,
-    );
+    let passed = pass_side(first, targets, ranks, positions, read, limit, place);
     let candidate = passed.candidate;
     if plus {
         return Passed {

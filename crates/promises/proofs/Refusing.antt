@@ -3,7 +3,9 @@ use mathlib.Core.Path.{◌≡◌, refl, sym}
 use mathlib.Core.Bool.{Bool, true, false}
 use Prim.Native.Nat.{ℕ, zero, suc}
 use native.Mathlib.Omega.{arith}
-use Rattle.promises.specs.Refusal.{unless, ◌or_else◌, refused, accepted, number_of, outcome}
+use Rattle.promises.specs.declared.refusal.Refusal.{Refusal}
+use Rattle.promises.specs.declared.refusal.Refusal.TheVariants as refusals
+use Rattle.promises.specs.Refusal.{refusal_number, unless, ◌or_else◌, refused, accepted, number_of, outcome}
 
 -- a refusal stands in front of all that follow it
 pub first_stands : (n m : ℕ) → (n ≡ 0 → ⊥) → n ≡ (n or_else m)
@@ -58,3 +60,28 @@ module _ {A : Type 0} where
   pub outcome_number : (n m : ℕ) (a : A) → outcome n a ≡ refused m → (n ≡ m) × (m ≡ 0 → ⊥)
   outcome_number zero m a e = absurd (let z : ◌≡◌ {A = ℕ} 0 1 = cc in omega arith)
   outcome_number (suc n) m a e = let f : suc n ≡ m = cc in (f, λ z. omega arith)
+
+-- the number of a refusal is not 0, which stands for none
+pub numbered : (e : Refusal) → refusal_number e ≡ 0 → ⊥
+numbered refusals.SeedLength z = omega arith
+numbered refusals.Catalogue z = omega arith
+numbered refusals.TargetBases z = omega arith
+numbered refusals.DoubleName z = omega arith
+numbered refusals.IndexRoom z = omega arith
+numbered refusals.StaleIndex z = omega arith
+numbered refusals.ReadLength z = omega arith
+numbered refusals.ReadBases z = omega arith
+numbered refusals.CandidateLimit z = omega arith
+numbered refusals.PlacementRoom z = omega arith
+numbered refusals.QualityFloor z = omega arith
+numbered refusals.FragmentOrder z = omega arith
+numbered refusals.MateRoles z = omega arith
+numbered refusals.EmptyRead z = omega arith
+numbered refusals.QualityLength z = omega arith
+numbered refusals.PhredByte z = omega arith
+numbered refusals.FullCounter z = omega arith
+numbered refusals.BooksApart z = omega arith
+numbered refusals.ChangedTargets z = omega arith
+numbered refusals.JobStream z = omega arith
+numbered refusals.ReadList z = omega arith
+numbered refusals.AnswerRoom z = omega arith

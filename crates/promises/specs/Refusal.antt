@@ -1,5 +1,7 @@
 -- Refusals by number, where 0 stands for none, and the outcome of a call.
-use Rattle.std.specs.Prelude.{Bool, true, false, ℕ, zero, suc}
+use Rattle.std.specs.Prelude.{Bool, true, false, ℕ, zero, suc, Result, Ok, Err}
+use Rattle.promises.specs.declared.refusal.Refusal.{Refusal}
+use Rattle.promises.specs.declared.refusal.Refusal.TheVariants as refusals
 
 -- the number, unless the condition holds
 abbrev pub unless : Bool → ℕ → ℕ
@@ -40,3 +42,40 @@ number_of (accepted a) = 0
 abbrev pub outcome : {A : Type 0} → ℕ → A → Outcome A
 outcome zero a = accepted a
 outcome (suc n) a = refused (suc n)
+
+-- ---- the answers of code
+
+-- the number of a refusal
+abbrev pub refusal_number : Refusal → ℕ
+refusal_number refusals.SeedLength = 1
+refusal_number refusals.Catalogue = 2
+refusal_number refusals.TargetBases = 3
+refusal_number refusals.DoubleName = 4
+refusal_number refusals.IndexRoom = 5
+refusal_number refusals.StaleIndex = 6
+refusal_number refusals.ReadLength = 7
+refusal_number refusals.ReadBases = 8
+refusal_number refusals.CandidateLimit = 9
+refusal_number refusals.PlacementRoom = 10
+refusal_number refusals.QualityFloor = 11
+refusal_number refusals.FragmentOrder = 12
+refusal_number refusals.MateRoles = 13
+refusal_number refusals.EmptyRead = 14
+refusal_number refusals.QualityLength = 15
+refusal_number refusals.PhredByte = 16
+refusal_number refusals.FullCounter = 17
+refusal_number refusals.BooksApart = 18
+refusal_number refusals.ChangedTargets = 19
+refusal_number refusals.JobStream = 20
+refusal_number refusals.ReadList = 25
+refusal_number refusals.AnswerRoom = 26
+
+-- what an answer stands for: a refusal by its number, or what its value stands for
+abbrev pub outcome_by : {A B : Type 0} → (A → B) → Result A Refusal → Outcome B
+outcome_by f (Ok a) = accepted (f a)
+outcome_by f (Err e) = refused (refusal_number e)
+
+-- the number of a test that answers nothing else: its refusal, or 0
+abbrev pub test_number : {A : Type 0} → Result A Refusal → ℕ
+test_number (Ok a) = 0
+test_number (Err e) = refusal_number e

@@ -1,2 +1,4 @@
-// The words that every promise is said in: refusals by number, and outcomes. There is no code.
+// The words that every promise is said in: refusals by number, and outcomes.
 #![tactic(auto)]
+
+pub mod refusal;

@@ -2,10 +2,12 @@
 #![tactic(auto)]
 
 ghost use Rattle.std.specs.Prelude.{◌≤◌, take};
-ghost use Rattle.catalogue.specs.Catalogue.{lent_catalogue};
+ghost use Rattle.catalogue.specs.Catalogue.{catalogue_in};
 ghost use Rattle.record_mapper.specs.Entry.{MapsRecords};
 
-use map_answers::answer::MapAnswer;
+use catalogue::lent::LentCatalogue;
+use map_answers::answer::Mapping;
+use promises::refusal::Refusal;
 use record_copy::SeedPosting;
 use record_mapper::map_records;
 
@@ -17,17 +19,13 @@ pub fn map_array(
     positions: &mut [u64],
     records: [SeedPosting; 256],
     n: usize,
-    identifiers: &[u8],
-    identifier_ends: &[usize],
-    bases: &[u8],
-    base_ends: &[usize],
-    marks: &[u8],
+    catalogue: LentCatalogue<'_>,
     q: usize,
     read: &[u8],
     limit: u64,
-) -> MapAnswer
+) -> Result<Mapping, Refusal>
     requires { n ≤ 256 }
-    ensures { MapsRecords q (lent_catalogue identifiers.now identifier_ends.now bases.now base_ends.now marks.now) (take n records) read.now limit result entries.old keys.old ranks.old positions.old entries.new keys.new ranks.new positions.new }
+    ensures { MapsRecords q (catalogue_in catalogue.entry) (take n records) read.now limit result entries.old keys.old ranks.old positions.old entries.new keys.new ranks.new positions.new }
 {
     map_records(
         entries,
@@ -35,11 +33,7 @@ pub fn map_array(
         ranks,
         positions,
         &records[..n],
-        identifiers,
-        identifier_ends,
-        bases,
-        base_ends,
-        marks,
+        catalogue,
         q,
         read,
         limit,

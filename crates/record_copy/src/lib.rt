@@ -32,9 +32,7 @@ pub fn copy_records(
     requires { Fits n records.now keys.old ranks.old positions.old }
     ensures { Copied n records.now keys.old ranks.old positions.old keys.new ranks.new positions.new }
 {
-    let mut i = 0;
-    while i < n {
+    for i in 0..n {
         put_row(keys, ranks, positions, i, records[i]);
-        i += 1;
     }
 }

@@ -3,6 +3,7 @@
 // lists, an end as a number; then commands, each its length and its bytes. Counters are zero at first, the columns hold
 // the index that `build` gives at 15, and sevens behind it.
 use crate::commands::run_command;
+use catalogue::lent::LentCatalogue;
 use index_calls::build;
 use std::io::Read;
 use test_audit_io::desk::{Desk, nothing_held};
@@ -13,57 +14,21 @@ use test_cases::targets::{
 use test_cases::writing::put;
 
 // The commands of a case, one after the other.
-fn run_commands(
-    rt: &impl Print,
-    start: Desk,
-    identifiers: &[u8],
-    identifier_ends: &[usize],
-    bases: &[u8],
-    base_ends: &[usize],
-    marks: &[u8],
-    s: &[u8],
-) {
+fn run_commands(rt: &impl Print, start: Desk, catalogue: LentCatalogue<'_>, s: &[u8]) {
     let mut desk = start;
     let mut at = 0;
     while at + 1 < s.len() {
         let end = case_end(s, at);
-        desk = run_command(
-            rt,
-            desk,
-            identifiers,
-            identifier_ends,
-            bases,
-            base_ends,
-            marks,
-            &s[at + 2..end],
-        );
+        desk = run_command(rt, desk, catalogue, &s[at + 2..end]);
         at = end;
     }
 }
 
-fn run_targets(
-    rt: &impl Print,
-    identifiers: &[u8],
-    identifier_ends: &[usize],
-    bases: &[u8],
-    base_ends: &[usize],
-    marks: &[u8],
-    s: &[u8],
-) {
+fn run_targets(rt: &impl Print, catalogue: LentCatalogue<'_>, s: &[u8]) {
     let mut keys = [7u64; 256];
     let mut ranks = [7u64; 256];
     let mut positions = [7u64; 256];
-    build(
-        &mut keys,
-        &mut ranks,
-        &mut positions,
-        identifiers,
-        identifier_ends,
-        bases,
-        base_ends,
-        marks,
-        15,
-    );
+    let _ = build(&mut keys, &mut ranks, &mut positions, catalogue, 15);
     let desk = Desk {
         placements: [0; 16],
         singles: [0; 16],
@@ -73,16 +38,7 @@ fn run_targets(
         positions,
         held: nothing_held(),
     };
-    run_commands(
-        rt,
-        desk,
-        identifiers,
-        identifier_ends,
-        bases,
-        base_ends,
-        marks,
-        s,
-    );
+    run_commands(rt, desk, catalogue, s);
 }
 
 fn run_case(rt: &impl Print, s: &[u8]) {
@@ -97,11 +53,13 @@ fn run_case(rt: &impl Print, s: &[u8]) {
     let base_ends = base_ends_in(s, lists);
     run_targets(
         rt,
-        identifiers_in(s, lists),
-        &identifier_ends[0..names],
-        bases_in(s, lists),
-        &base_ends[0..sequences],
-        marks_in(s, lists),
+        LentCatalogue {
+            identifiers: identifiers_in(s, lists),
+            identifier_ends: &identifier_ends[0..names],
+            bases: bases_in(s, lists),
+            base_ends: &base_ends[0..sequences],
+            marks: marks_in(s, lists),
+        },
         &s[commands..],
     );
 }
@@ -123,9 +81,7 @@ fn run_block<R: Read>(rt: &impl Print, input: &mut R) {
 
 // Runs the cases of an input, up to 16 blocks of bytes. No case goes over the end of a block.
 pub fn run_blocks<R: Read>(rt: &impl Print, input: &mut R) {
-    let mut i: usize = 0;
-    while i < 16 {
+    for _ in 0..16 {
         run_block(rt, input);
-        i += 1;
     }
 }

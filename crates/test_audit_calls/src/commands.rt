@@ -14,6 +14,8 @@
 ghost use Rattle.std.specs.Prelude.{◌≤◌, length};
 
 use crate::lent::lend;
+use catalogue::lent::LentCatalogue;
+use index_columns::LentIndex;
 use test_audit_io::desk::{Desk, with_state};
 use test_audit_io::numbers::state_of;
 use test_cases::reading::{at_most, eight, number};
@@ -22,24 +24,18 @@ use test_cases::writing::put;
 // Sets numbers from a place on to a value.
 fn fill(numbers: &mut [u64], from: usize, to: usize, value: u64) {
     let end = at_most(to, numbers.len());
-    let mut i = from;
-    while i < end {
+    for i in from..end {
         numbers[i] = value;
-        i += 1;
     }
 }
 
 // Up to where a list is set: its own command and that of all counters reach it.
 fn reach(which: u8, own: u8, to: usize) -> usize {
-    if which == own {
-        return to;
+    if which == own || (which == 6 && own < 3) {
+        to
+    } else {
+        0
     }
-    if which == 6 {
-        if own < 3 {
-            return to;
-        }
-    }
-    0
 }
 
 fn fill_counters(desk: Desk, which: u8, from: usize, to: usize, value: u64) -> Desk {
@@ -95,16 +91,7 @@ fn state_command(rt: &impl Print, desk: Desk, s: &[u8]) -> Desk {
 }
 
 // The call with all counters and columns, of which it lends as much as the command says.
-fn call_command(
-    rt: &impl Print,
-    desk: Desk,
-    identifiers: &[u8],
-    identifier_ends: &[usize],
-    bases: &[u8],
-    base_ends: &[usize],
-    marks: &[u8],
-    s: &[u8],
-) -> Desk
+fn call_command(rt: &impl Print, desk: Desk, catalogue: LentCatalogue<'_>, s: &[u8]) -> Desk
     requires { 9 ≤ length s.now }
 {
     let mut placements = desk.placements;
@@ -119,14 +106,12 @@ fn call_command(
         &mut placements,
         &mut singles,
         &mut multi,
-        &keys,
-        &ranks,
-        &positions,
-        identifiers,
-        identifier_ends,
-        bases,
-        base_ends,
-        marks,
+        LentIndex {
+            keys: &keys,
+            ranks: &ranks,
+            positions: &positions,
+        },
+        catalogue,
         s,
         before,
     );
@@ -141,16 +126,7 @@ fn call_command(
     }
 }
 
-pub fn run_command(
-    rt: &impl Print,
-    desk: Desk,
-    identifiers: &[u8],
-    identifier_ends: &[usize],
-    bases: &[u8],
-    base_ends: &[usize],
-    marks: &[u8],
-    s: &[u8],
-) -> Desk {
+pub fn run_command(rt: &impl Print, desk: Desk, catalogue: LentCatalogue<'_>, s: &[u8]) -> Desk {
     if s.len() < 9 {
         put(rt, b"short\n");
         return desk;
@@ -162,14 +138,5 @@ pub fn run_command(
     if code == 1 {
         return state_command(rt, desk, s);
     }
-    call_command(
-        rt,
-        desk,
-        identifiers,
-        identifier_ends,
-        bases,
-        base_ends,
-        marks,
-        s,
-    )
+    call_command(rt, desk, catalogue, s)
 }

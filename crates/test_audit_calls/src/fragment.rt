@@ -1,7 +1,10 @@
 // Audits a fragment, by the index or plain, and writes what the call answers and leaves.
 use audit::fragment::{fragment, plain_fragment};
+use audit_ledger::LentCounters;
 use audit_model::calls::FragmentAudit;
 use audit_model::settings::AuditState;
+use catalogue::lent::LentCatalogue;
+use index_columns::LentIndex;
 use test_audit_io::answered::{put_counters, put_fragment, put_state};
 use test_audit_io::numbers::FragmentHead;
 use test_cases::writing::put_numbers;
@@ -9,16 +12,14 @@ use test_cases::writing::put_numbers;
 fn put_audit(
     rt: &impl Print,
     audited: FragmentAudit,
-    placements: &[u64],
-    singles: &[u64],
-    multi: &[u64],
+    counters: LentCounters<'_>,
     entries: &[u64],
 ) -> AuditState {
     let answer = audited.answer;
     let left = audited.state;
     put_fragment(rt, answer);
     put_state(rt, left);
-    put_counters(rt, placements, singles, multi);
+    put_counters(rt, counters);
     put_numbers(rt, b"entries", entries);
     left
 }
@@ -29,14 +30,8 @@ pub fn run_fragment(
     placements: &mut [u64],
     singles: &mut [u64],
     multi: &mut [u64],
-    keys: &[u64],
-    ranks: &[u64],
-    positions: &[u64],
-    identifiers: &[u8],
-    identifier_ends: &[usize],
-    bases: &[u8],
-    base_ends: &[usize],
-    marks: &[u8],
+    index: LentIndex<'_>,
+    catalogue: LentCatalogue<'_>,
     first: &[u8],
     first_qualities: &[u8],
     second: &[u8],
@@ -52,11 +47,7 @@ pub fn run_fragment(
             placements,
             singles,
             multi,
-            identifiers,
-            identifier_ends,
-            bases,
-            base_ends,
-            marks,
+            catalogue,
             first,
             first_qualities,
             second,
@@ -69,21 +60,24 @@ pub fn run_fragment(
             head.count,
             state,
         );
-        return put_audit(rt, audited, placements, singles, multi, entries);
+        return put_audit(
+            rt,
+            audited,
+            LentCounters {
+                placements,
+                singles,
+                multi,
+            },
+            entries,
+        );
     }
     let audited = fragment(
         entries,
         placements,
         singles,
         multi,
-        keys,
-        ranks,
-        positions,
-        identifiers,
-        identifier_ends,
-        bases,
-        base_ends,
-        marks,
+        index,
+        catalogue,
         first,
         first_qualities,
         second,
@@ -96,5 +90,14 @@ pub fn run_fragment(
         head.count,
         state,
     );
-    put_audit(rt, audited, placements, singles, multi, entries)
+    put_audit(
+        rt,
+        audited,
+        LentCounters {
+            placements,
+            singles,
+            multi,
+        },
+        entries,
+    )
 }

@@ -5,7 +5,10 @@ use crate::finish::run_finish;
 use crate::fragment::run_fragment;
 use crate::open::run_open;
 use crate::sheet::apply_command;
+use audit_ledger::LentCounters;
 use audit_model::settings::AuditState;
+use catalogue::lent::LentCatalogue;
+use index_columns::LentIndex;
 use test_audit_io::desk::{Held, with_sheet, with_state};
 use test_audit_io::numbers::{head_of, settings_of, share};
 use test_audit_io::reads::{
@@ -20,14 +23,8 @@ fn fragment_command(
     placements: &mut [u64],
     singles: &mut [u64],
     multi: &mut [u64],
-    keys: &[u64],
-    ranks: &[u64],
-    positions: &[u64],
-    identifiers: &[u8],
-    identifier_ends: &[usize],
-    bases: &[u8],
-    base_ends: &[usize],
-    marks: &[u8],
+    index: LentIndex<'_>,
+    catalogue: LentCatalogue<'_>,
     s: &[u8],
     state: AuditState,
 ) -> AuditState {
@@ -48,14 +45,8 @@ fn fragment_command(
         placements,
         singles,
         multi,
-        keys,
-        ranks,
-        positions,
-        identifiers,
-        identifier_ends,
-        bases,
-        base_ends,
-        marks,
+        index,
+        catalogue,
         &first[0..n],
         first_qualities(s),
         &second[0..m],
@@ -71,14 +62,8 @@ fn lent_call(
     placements: &mut [u64],
     singles: &mut [u64],
     multi: &mut [u64],
-    keys: &[u64],
-    ranks: &[u64],
-    positions: &[u64],
-    identifiers: &[u8],
-    identifier_ends: &[usize],
-    bases: &[u8],
-    base_ends: &[usize],
-    marks: &[u8],
+    index: LentIndex<'_>,
+    catalogue: LentCatalogue<'_>,
     s: &[u8],
     held: Held,
 ) -> Held
@@ -96,52 +81,27 @@ fn lent_call(
             placements,
             singles,
             multi,
-            keys,
-            ranks,
-            positions,
-            identifiers,
-            identifier_ends,
-            bases,
-            base_ends,
-            marks,
+            index,
+            catalogue,
             is_set(s[1]),
             settings_of(s, 9),
         );
         return with_state(held, left);
     }
     if code == 3 {
-        let left = fragment_command(
-            rt,
-            placements,
-            singles,
-            multi,
-            keys,
-            ranks,
-            positions,
-            identifiers,
-            identifier_ends,
-            bases,
-            base_ends,
-            marks,
-            s,
-            state,
-        );
+        let left = fragment_command(rt, placements, singles, multi, index, catalogue, s, state);
         return with_state(held, left);
     }
     if code == 4 {
         let sheet = run_finish(
             rt,
-            placements,
-            singles,
-            multi,
-            keys,
-            ranks,
-            positions,
-            identifiers,
-            identifier_ends,
-            bases,
-            base_ends,
-            marks,
+            LentCounters {
+                placements,
+                singles,
+                multi,
+            },
+            index,
+            catalogue,
             is_set(s[1]),
             state,
         );
@@ -150,14 +110,12 @@ fn lent_call(
     let sheet = held.sheet;
     apply_command(
         rt,
-        placements,
-        singles,
-        multi,
-        identifiers,
-        identifier_ends,
-        bases,
-        base_ends,
-        marks,
+        LentCounters {
+            placements,
+            singles,
+            multi,
+        },
+        catalogue,
         s,
         sheet,
     );
@@ -170,14 +128,8 @@ pub fn lend(
     placements: &mut [u64],
     singles: &mut [u64],
     multi: &mut [u64],
-    keys: &[u64],
-    ranks: &[u64],
-    positions: &[u64],
-    identifiers: &[u8],
-    identifier_ends: &[usize],
-    bases: &[u8],
-    base_ends: &[usize],
-    marks: &[u8],
+    index: LentIndex<'_>,
+    catalogue: LentCatalogue<'_>,
     s: &[u8],
     held: Held,
 ) -> Held
@@ -186,22 +138,20 @@ pub fn lend(
     let p = share(s, 3, placements.len());
     let g = share(s, 4, singles.len());
     let m = share(s, 5, multi.len());
-    let k = share(s, 6, keys.len());
-    let r = share(s, 7, ranks.len());
-    let o = share(s, 8, positions.len());
+    let k = share(s, 6, index.keys.len());
+    let r = share(s, 7, index.ranks.len());
+    let o = share(s, 8, index.positions.len());
     lent_call(
         rt,
         &mut placements[..p],
         &mut singles[..g],
         &mut multi[..m],
-        &keys[..k],
-        &ranks[..r],
-        &positions[..o],
-        identifiers,
-        identifier_ends,
-        bases,
-        base_ends,
-        marks,
+        LentIndex {
+            keys: &index.keys[..k],
+            ranks: &index.ranks[..r],
+            positions: &index.positions[..o],
+        },
+        catalogue,
         s,
         held,
     )

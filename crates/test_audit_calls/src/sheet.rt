@@ -1,8 +1,10 @@
 // Applies the sheet of a finished audit by a command that is written as bytes; `commands` says how.
 ghost use Rattle.std.specs.Prelude.{◌≤◌, length};
 
+use audit_ledger::LentCounters;
 use audit_model::sheet::Sheet;
 use audit_unitigs::apply_to_unitigs;
+use catalogue::lent::LentCatalogue;
 use test_audit_io::answered::put_call;
 use test_audit_io::numbers::share;
 use test_cases::targets::{
@@ -13,38 +15,12 @@ use test_cases::writing::put_numbers;
 fn run_apply(
     rt: &impl Print,
     rows: &mut [u64],
-    placements: &[u64],
-    singles: &[u64],
-    multi: &[u64],
-    audited_identifiers: &[u8],
-    audited_identifier_ends: &[usize],
-    audited_bases: &[u8],
-    audited_base_ends: &[usize],
-    audited_marks: &[u8],
-    identifiers: &[u8],
-    identifier_ends: &[usize],
-    bases: &[u8],
-    base_ends: &[usize],
-    marks: &[u8],
+    counters: LentCounters<'_>,
+    audited: LentCatalogue<'_>,
+    catalogue: LentCatalogue<'_>,
     sheet: Sheet,
 ) {
-    let answer = apply_to_unitigs(
-        rows,
-        placements,
-        singles,
-        multi,
-        audited_identifiers,
-        audited_identifier_ends,
-        audited_bases,
-        audited_base_ends,
-        audited_marks,
-        identifiers,
-        identifier_ends,
-        bases,
-        base_ends,
-        marks,
-        sheet,
-    );
+    let answer = apply_to_unitigs(rows, counters, audited, catalogue, sheet);
     put_call(rt, answer, b"applied\n");
     put_numbers(rt, b"rows", rows);
 }
@@ -52,14 +28,8 @@ fn run_apply(
 // The targets now written in a command, in rows that hold 999.
 fn apply_written(
     rt: &impl Print,
-    placements: &[u64],
-    singles: &[u64],
-    multi: &[u64],
-    identifiers: &[u8],
-    identifier_ends: &[usize],
-    bases: &[u8],
-    base_ends: &[usize],
-    marks: &[u8],
+    counters: LentCounters<'_>,
+    catalogue: LentCatalogue<'_>,
     s: &[u8],
     sheet: Sheet,
 )
@@ -75,19 +45,15 @@ fn apply_written(
     run_apply(
         rt,
         &mut rows[0..r],
-        placements,
-        singles,
-        multi,
-        identifiers,
-        identifier_ends,
-        bases,
-        base_ends,
-        marks,
-        identifiers_in(s, lists),
-        &name_ends[0..names],
-        bases_in(s, lists),
-        &sequence_ends[0..sequences],
-        marks_in(s, lists),
+        counters,
+        catalogue,
+        LentCatalogue {
+            identifiers: identifiers_in(s, lists),
+            identifier_ends: &name_ends[0..names],
+            bases: bases_in(s, lists),
+            base_ends: &sequence_ends[0..sequences],
+            marks: marks_in(s, lists),
+        },
         sheet,
     );
 }
@@ -95,52 +61,17 @@ fn apply_written(
 // The targets now, or those of the case where none are written.
 pub fn apply_command(
     rt: &impl Print,
-    placements: &[u64],
-    singles: &[u64],
-    multi: &[u64],
-    identifiers: &[u8],
-    identifier_ends: &[usize],
-    bases: &[u8],
-    base_ends: &[usize],
-    marks: &[u8],
+    counters: LentCounters<'_>,
+    catalogue: LentCatalogue<'_>,
     s: &[u8],
     sheet: Sheet,
 )
     requires { 9 ≤ length s.now }
 {
     if s.len() >= 19 {
-        return apply_written(
-            rt,
-            placements,
-            singles,
-            multi,
-            identifiers,
-            identifier_ends,
-            bases,
-            base_ends,
-            marks,
-            s,
-            sheet,
-        );
+        return apply_written(rt, counters, catalogue, s, sheet);
     }
     let mut rows = [999u64; 256];
     let r = share(s, 2, 256);
-    run_apply(
-        rt,
-        &mut rows[0..r],
-        placements,
-        singles,
-        multi,
-        identifiers,
-        identifier_ends,
-        bases,
-        base_ends,
-        marks,
-        identifiers,
-        identifier_ends,
-        bases,
-        base_ends,
-        marks,
-        sheet,
-    );
+    run_apply(rt, &mut rows[0..r], counters, catalogue, catalogue, sheet);
 }

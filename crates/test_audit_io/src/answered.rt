@@ -1,9 +1,10 @@
 // What the calls of an audit answer and leave, written as lines of numbers.
 use audit_codes::{flag_number, mode_number, status_number};
-use audit_ledger::Ledger;
-use audit_model::calls::{CallAnswer, FragmentAnswer};
-use audit_model::settings::{AuditState, LastOrdinal, Settings};
-use audit_model::sheet::{Availability, PlacementTotals, Sheet};
+use audit_ledger::{Ledger, LentCounters};
+use audit_model::calls::FragmentRows;
+use audit_model::settings::{AuditState, Settings};
+use audit_model::sheet::{PlacementTotals, Sheet};
+use promises::refusal::Refusal;
 use test_cases::writing::{put, put_line, put_number, put_numbers};
 use test_map_calls::answered::put_mapping;
 
@@ -18,10 +19,10 @@ fn put_settings(rt: &impl Print, settings: Settings) {
     put_numbers(rt, b"settings", &numbers);
 }
 
-fn put_ordinal(rt: &impl Print, last: LastOrdinal) {
+fn put_ordinal(rt: &impl Print, last: Option<u64>) {
     match last {
-        LastOrdinal::Absent => put(rt, b"last -\n"),
-        LastOrdinal::Accepted(n) => put_line(rt, b"last ", n),
+        None => put(rt, b"last -\n"),
+        Some(n) => put_line(rt, b"last ", n),
     }
 }
 
@@ -48,29 +49,27 @@ pub fn put_state(rt: &impl Print, state: AuditState) {
     put_ledger(rt, ledger);
 }
 
-pub fn put_counters(rt: &impl Print, placements: &[u64], singles: &[u64], multi: &[u64]) {
-    put_numbers(rt, b"placements", placements);
-    put_numbers(rt, b"singles", singles);
-    put_numbers(rt, b"multi", multi);
+pub fn put_counters(rt: &impl Print, counters: LentCounters<'_>) {
+    put_numbers(rt, b"placements", counters.placements);
+    put_numbers(rt, b"singles", counters.singles);
+    put_numbers(rt, b"multi", counters.multi);
 }
 
 // The answer of a call, with the line of an accepted one.
-pub fn put_call(rt: &impl Print, answer: CallAnswer, accepted: &[u8]) {
+pub fn put_call(rt: &impl Print, answer: Result<(), Refusal>, accepted: &[u8]) {
     match answer {
-        CallAnswer::Refused(n) => put_line(rt, b"refused ", n),
-        CallAnswer::Accepted => put(rt, accepted),
+        Err(refusal) => put_line(rt, b"refused ", refusal.number()),
+        Ok(()) => put(rt, accepted),
     }
 }
 
-pub fn put_fragment(rt: &impl Print, answer: FragmentAnswer) {
+pub fn put_fragment(rt: &impl Print, answer: Result<FragmentRows, Refusal>) {
     match answer {
-        FragmentAnswer::Refused(n) => put_line(rt, b"refused ", n),
-        FragmentAnswer::Single(row) => put_mapping(rt, row),
-        FragmentAnswer::Paired(rows) => {
-            let first = rows.first;
-            let second = rows.second;
-            put_mapping(rt, first);
-            put_mapping(rt, second);
+        Err(refusal) => put_line(rt, b"refused ", refusal.number()),
+        Ok(FragmentRows::Single(row)) => put_mapping(rt, row),
+        Ok(FragmentRows::Paired(rows)) => {
+            put_mapping(rt, rows.first);
+            put_mapping(rt, rows.second);
         }
     }
 }
@@ -91,7 +90,7 @@ pub fn put_sheet(rt: &impl Print, sheet: Sheet) {
     put_numbers(rt, b"", &table);
     put_number(rt, b"run ", status_number(status));
     match totals {
-        Availability::Unavailable => put(rt, b" -\n"),
-        Availability::Available(t) => put_totals(rt, t),
+        None => put(rt, b" -\n"),
+        Some(t) => put_totals(rt, t),
     }
 }

@@ -1,7 +1,7 @@
 // What one command of a case leaves to the next.
 use audit_ledger::Ledger;
-use audit_model::settings::{AuditInputMode, AuditState, LastOrdinal, Settings};
-use audit_model::sheet::{Availability, Sheet, Shown, Status};
+use audit_model::settings::{AuditInputMode, AuditState, Settings};
+use audit_model::sheet::{Sheet, Shown, Status};
 
 // State and sheet.
 #[derive(Clone, Copy)]
@@ -40,12 +40,12 @@ pub fn nothing_held() -> Held {
     };
     let run = Shown {
         status: Status::RemapDisabled,
-        totals: Availability::Unavailable,
+        totals: None,
     };
     Held {
         state: AuditState {
             settings,
-            last: LastOrdinal::Absent,
+            last: None,
             ledger,
         },
         sheet: Sheet {

@@ -3,7 +3,7 @@ ghost use Rattle.std.specs.Prelude.{◌+◌, ◌<◌, ◌≤◌, ◌≡◌, leng
 
 use audit_codes::{mode_of, role_of};
 use audit_ledger::Ledger;
-use audit_model::settings::{AuditState, LastOrdinal, MateRole, Settings};
+use audit_model::settings::{AuditState, MateRole, Settings};
 use test_cases::reading::{at_most, eight, is_set, number, wide};
 
 // The numbers of a fragment, and of its two reads, that are no lists.
@@ -49,13 +49,13 @@ pub fn settings_of(s: &[u8], at: usize) -> Settings
     }
 }
 
-fn last_of(s: &[u8], at: usize) -> LastOrdinal
+fn last_of(s: &[u8], at: usize) -> Option<u64>
     requires { at + 8 < length s.now }
 {
     if s[at] == 1 {
-        return LastOrdinal::Accepted(eight(s, at + 1));
+        return Some(eight(s, at + 1));
     }
-    LastOrdinal::Absent
+    None
 }
 
 fn table_of(s: &[u8]) -> [u64; 18]
@@ -63,10 +63,8 @@ fn table_of(s: &[u8]) -> [u64; 18]
     ensures { 18 ≡ length result }
 {
     let mut table = [0u64; 18];
-    let mut i = 0;
-    while i < 18 {
+    for i in 0..18 {
         table[i] = near(s, i * 2);
-        i += 1;
     }
     table
 }

@@ -5,7 +5,7 @@
 
 ghost use Rattle.std.specs.Prelude.{◌≤◌, length};
 
-use bases::eligibility::Eligibility;
+use promises::refusal::Refusal;
 use test_cases::reading::read_full;
 use test_cases::writing::{put, put_line, put_number};
 
@@ -22,18 +22,14 @@ fn put_bytes(rt: &impl Print) {
 }
 
 // Where b stands first from a place on, or the end.
-fn find(s: &[u8], from: usize, end: usize, b: u8) -> usize
-    requires { (from ≤ end) × (end ≤ length s.now) }
-    ensures { (from ≤ result) × (result ≤ end) }
+fn find(s: &[u8], from: usize, b: u8) -> usize
+    requires { from ≤ length s.now }
+    ensures { (from ≤ result) × (result ≤ length s.now) }
 {
-    let mut i = from;
-    while i < end {
-        if s[i] == b {
-            return i;
-        }
-        i += 1;
+    match s[from..].iter().position(|x| *x == b) {
+        Some(i) => from + i,
+        None => s.len(),
     }
-    end
 }
 
 // One place further, but not past the end.
@@ -44,13 +40,11 @@ fn behind(place: usize, end: usize) -> usize
     if place < end { place + 1 } else { end }
 }
 
-fn put_answer(rt: &impl Print, e: Eligibility) {
-    match e {
-        Eligibility::EmptyRead => put(rt, b"refused 14\n"),
-        Eligibility::QualityLength => put(rt, b"refused 15\n"),
-        Eligibility::PhredByte => put(rt, b"refused 16\n"),
-        Eligibility::Ineligible => put(rt, b"ineligible\n"),
-        Eligibility::Eligible => put(rt, b"eligible\n"),
+fn put_answer(rt: &impl Print, judged: Result<bool, Refusal>) {
+    match judged {
+        Ok(true) => put(rt, b"eligible\n"),
+        Ok(false) => put(rt, b"ineligible\n"),
+        Err(refusal) => put_line(rt, b"refused ", refusal.number()),
     }
 }
 
@@ -64,9 +58,8 @@ fn judge_line(rt: &impl Print, line: &[u8]) {
     if lowest < offset {
         return;
     }
-    let end = line.len();
-    let space = find(line, 3, end, b' ');
-    let start = behind(space, end);
+    let space = find(line, 3, b' ');
+    let start = behind(space, line.len());
     let read = &line[3..space];
     let qualities = &line[start..];
     put_answer(
@@ -76,11 +69,8 @@ fn judge_line(rt: &impl Print, line: &[u8]) {
 }
 
 fn judge_lines(rt: &impl Print, s: &[u8]) {
-    let mut at = 0;
-    while at < s.len() {
-        let end = find(s, at, s.len(), b'\n');
-        judge_line(rt, &s[at..end]);
-        at = end + 1;
+    for line in s.split(|b| *b == b'\n') {
+        judge_line(rt, line);
     }
 }
 
@@ -89,5 +79,5 @@ fn main(rt: HostRuntime) {
     let mut buffer = [0u8; 65536];
     let mut input = rt.stdin();
     let n = read_full(&mut input, &mut buffer);
-    judge_lines(&rt, &buffer[0..n]);
+    judge_lines(&rt, &buffer[..n]);
 }

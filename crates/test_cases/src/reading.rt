@@ -6,7 +6,7 @@ use std::io::Read;
 pub fn at_most(n: usize, most: usize) -> usize
     ensures { result ≤ most }
 {
-    if n < most { n } else { most }
+    n.min(most)
 }
 
 pub fn is_set(b: u8) -> bool {
@@ -85,8 +85,7 @@ pub fn case_end(s: &[u8], at: usize) -> usize
 pub fn part(s: &[u8], from: usize, n: usize) -> &[u8]
     requires { from ≤ length s.now }
 {
-    let end = part_end(s, from, n);
-    &s[from..end]
+    &s[from..part_end(s, from, n)]
 }
 
 // How many bytes a read has: those written, and the last of them as often again as there are more.
@@ -94,7 +93,7 @@ pub fn whole_length(written: &[u8], more: usize) -> usize
     requires { more < 65536 }
     ensures { result ≤ 65536 }
 {
-    if written.len() < 1 {
+    if written.is_empty() {
         return 0;
     }
     at_most(at_most(written.len(), 65536) + more, 65536)
@@ -106,15 +105,13 @@ pub fn whole_read(written: &[u8], more: usize) -> [u8; 65536]
     ensures { 65536 ≡ length result }
 {
     let mut read = [0u8; 65536];
-    if written.len() < 1 {
+    if written.is_empty() {
         return read;
     }
     let last = written.len() - 1;
     let n = whole_length(written, more);
-    let mut i = 0;
-    while i < n {
+    for i in 0..n {
         read[i] = written[at_most(i, last)];
-        i += 1;
     }
     read
 }

@@ -24,10 +24,7 @@ fn end_count(s: &[u8], from: usize, n: usize) -> usize
     requires { from ≤ length s.now }
     ensures { (result ≤ 16) × ((from + result * 2 ≤ length s.now) × (from + result * 2 < 18446744073709551616)) }
 {
-    if 16 < n {
-        return 0;
-    }
-    if s.len() - from < n * 2 {
+    if 16 < n || s.len() - from < n * 2 {
         return 0;
     }
     n
@@ -63,10 +60,8 @@ fn read_ends(s: &[u8], from: usize, n: usize) -> [usize; 16]
     ensures { 16 ≡ length result }
 {
     let mut ends = [0usize; 16];
-    let mut i = 0;
-    while i < n {
+    for i in 0..n {
         ends[i] = number(s, from + i * 2);
-        i += 1;
     }
     ends
 }
@@ -74,9 +69,7 @@ fn read_ends(s: &[u8], from: usize, n: usize) -> [usize; 16]
 pub fn identifiers_in(s: &[u8], lists: Lists) -> &[u8]
     requires { ListsIn lists (length s.now) }
 {
-    let start = lists.start;
-    let end = lists.identifiers;
-    &s[start..end]
+    &s[lists.start..lists.identifiers]
 }
 
 pub fn identifier_ends_in(s: &[u8], lists: Lists) -> [usize; 16]
@@ -89,9 +82,7 @@ pub fn identifier_ends_in(s: &[u8], lists: Lists) -> [usize; 16]
 pub fn bases_in(s: &[u8], lists: Lists) -> &[u8]
     requires { ListsIn lists (length s.now) }
 {
-    let start = lists.named;
-    let end = lists.bases;
-    &s[start..end]
+    &s[lists.named..lists.bases]
 }
 
 pub fn base_ends_in(s: &[u8], lists: Lists) -> [usize; 16]
@@ -104,7 +95,5 @@ pub fn base_ends_in(s: &[u8], lists: Lists) -> [usize; 16]
 pub fn marks_in(s: &[u8], lists: Lists) -> &[u8]
     requires { ListsIn lists (length s.now) }
 {
-    let start = lists.ended;
-    let end = lists.marks;
-    &s[start..end]
+    &s[lists.ended..lists.marks]
 }

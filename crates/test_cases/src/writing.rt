@@ -18,10 +18,8 @@ pub fn put_line(rt: &impl Print, before: &[u8], n: u64) {
 // A line of numbers behind a word.
 pub fn put_numbers(rt: &impl Print, word: &[u8], numbers: &[u64]) {
     put(rt, word);
-    let mut i = 0;
-    while i < numbers.len() {
-        put_number(rt, b" ", numbers[i]);
-        i += 1;
+    for n in numbers {
+        put_number(rt, b" ", *n);
     }
     put(rt, b"\n");
 }

@@ -9,9 +9,12 @@
 
 ghost use Rattle.std.specs.Prelude.{◌≤◌, length};
 
-use index_calls::{Built, build};
-use index_plan::{IndexPlan, plan};
+use catalogue::lent::LentCatalogue;
+use index_calls::build;
+use index_columns::LentIndex;
+use index_plan::{Counts, plan};
 use numbered::run_numbered;
+use promises::refusal::Refusal;
 use test_cases::reading::{at_most, case_end, number, read_full};
 use test_cases::targets::{
     base_ends_in, bases_in, identifier_ends_in, identifiers_in, lists_at, marks_in,
@@ -30,30 +33,30 @@ struct Room {
     positions: usize,
 }
 
-fn put_plan(rt: &impl Print, p: IndexPlan) {
+fn put_plan(rt: &impl Print, p: Result<Counts, Refusal>) {
     match p {
-        IndexPlan::Refused(n) => put_line(rt, b"plan refused ", n),
-        IndexPlan::Planned(k) => {
+        Err(refusal) => put_line(rt, b"plan refused ", refusal.number()),
+        Ok(k) => {
             let numbers = [k.targets as u64, k.postings as u64];
             put_numbers(rt, b"plan", &numbers);
         }
     }
 }
 
-fn put_built(rt: &impl Print, b: Built) {
+fn put_built(rt: &impl Print, b: Result<usize, Refusal>) {
     match b {
-        Built::Refused(n) => put_line(rt, b"build refused ", n),
-        Built::Built(n) => put_line(rt, b"build ", n as u64),
+        Err(refusal) => put_line(rt, b"build refused ", refusal.number()),
+        Ok(n) => put_line(rt, b"build ", n as u64),
     }
 }
 
-fn put_columns(rt: &impl Print, keys: &[u64], ranks: &[u64], positions: &[u64], room: Room) {
-    let k = at_most(room.keys, keys.len());
-    let r = at_most(room.ranks, ranks.len());
-    let p = at_most(room.positions, positions.len());
-    put_numbers(rt, b"keys", &keys[0..k]);
-    put_numbers(rt, b"ranks", &ranks[0..r]);
-    put_numbers(rt, b"positions", &positions[0..p]);
+fn put_columns(rt: &impl Print, index: LentIndex<'_>, room: Room) {
+    let k = at_most(room.keys, index.keys.len());
+    let r = at_most(room.ranks, index.ranks.len());
+    let p = at_most(room.positions, index.positions.len());
+    put_numbers(rt, b"keys", &index.keys[0..k]);
+    put_numbers(rt, b"ranks", &index.ranks[0..r]);
+    put_numbers(rt, b"positions", &index.positions[0..p]);
 }
 
 fn run_build(
@@ -61,13 +64,9 @@ fn run_build(
     ranks: &mut [u64],
     positions: &mut [u64],
     room: Room,
-    identifiers: &[u8],
-    identifier_ends: &[usize],
-    bases: &[u8],
-    base_ends: &[usize],
-    marks: &[u8],
+    catalogue: LentCatalogue<'_>,
     q: usize,
-) -> Built {
+) -> Result<usize, Refusal> {
     let k = at_most(room.keys, keys.len());
     let r = at_most(room.ranks, ranks.len());
     let p = at_most(room.positions, positions.len());
@@ -75,59 +74,30 @@ fn run_build(
         &mut keys[..k],
         &mut ranks[..r],
         &mut positions[..p],
-        identifiers,
-        identifier_ends,
-        bases,
-        base_ends,
-        marks,
+        catalogue,
         q,
     )
 }
 
 // Plans, builds into columns of sevens, and tests what is left in them.
-fn run_calls(
-    rt: &impl Print,
-    room: Room,
-    identifiers: &[u8],
-    identifier_ends: &[usize],
-    bases: &[u8],
-    base_ends: &[usize],
-    marks: &[u8],
-    q: usize,
-) {
-    let planned = plan(identifiers, identifier_ends, bases, base_ends, marks, q);
+fn run_calls(rt: &impl Print, room: Room, catalogue: LentCatalogue<'_>, q: usize) {
+    let planned = plan(catalogue, q);
     put_plan(rt, planned);
     let mut keys = [7u64; 64];
     let mut ranks = [7u64; 64];
     let mut positions = [7u64; 64];
-    let built = run_build(
-        &mut keys,
-        &mut ranks,
-        &mut positions,
-        room,
-        identifiers,
-        identifier_ends,
-        bases,
-        base_ends,
-        marks,
-        q,
-    );
+    let built = run_build(&mut keys, &mut ranks, &mut positions, room, catalogue, q);
     put_built(rt, built);
-    put_columns(rt, &keys, &ranks, &positions, room);
-    run_tests(
+    put_columns(
         rt,
-        built,
-        keys,
-        ranks,
-        positions,
+        LentIndex {
+            keys: &keys,
+            ranks: &ranks,
+            positions: &positions,
+        },
         room,
-        identifiers,
-        identifier_ends,
-        bases,
-        base_ends,
-        marks,
-        q,
     );
+    run_tests(rt, built, keys, ranks, positions, room, catalogue, q);
 }
 
 // The entries lent, of a case's head.
@@ -154,17 +124,19 @@ fn run_catalogue(rt: &impl Print, s: &[u8]) {
     run_calls(
         rt,
         lent(s),
-        identifiers_in(s, lists),
-        &identifier_ends[0..names],
-        bases_in(s, lists),
-        &base_ends[0..sequences],
-        marks_in(s, lists),
+        LentCatalogue {
+            identifiers: identifiers_in(s, lists),
+            identifier_ends: &identifier_ends[0..names],
+            bases: bases_in(s, lists),
+            base_ends: &base_ends[0..sequences],
+            marks: marks_in(s, lists),
+        },
         number(s, 1),
     );
 }
 
 fn run_case(rt: &impl Print, s: &[u8]) {
-    if s.len() < 1 {
+    if s.is_empty() {
         return put(rt, b"short\n");
     }
     if s[0] == b'N' {

@@ -2,6 +2,7 @@
 ghost use Rattle.std.specs.Prelude.{◌≡◌, ◌≤◌, length};
 
 use crate::put_plan;
+use catalogue::lent::LentCatalogue;
 use index_plan::plan;
 use test_cases::reading::{at_most, number};
 use test_cases::writing::put;
@@ -24,12 +25,10 @@ fn numbered_names(n: usize, distinct: usize) -> [u8; 8400]
     ensures { 8400 ≡ length result }
 {
     let mut names = [0u8; 8400];
-    let mut i = 0;
-    while i < n {
+    for i in 0..n {
         let name = place_of(i, distinct);
         names[i * 2] = byte(name, false);
         names[i * 2 + 1] = byte(name, true);
-        i += 1;
     }
     names
 }
@@ -41,11 +40,9 @@ fn numbered_ends(n: usize, each: usize) -> [usize; 4200]
 {
     let mut ends = [0usize; 4200];
     let mut end = 0;
-    let mut i = 0;
-    while i < n {
+    for i in 0..n {
         end += each;
         ends[i] = end;
-        i += 1;
     }
     ends
 }
@@ -56,11 +53,7 @@ fn repeated(n: usize, b: u8, other: u8) -> [u8; 4200]
     ensures { 4200 ≡ length result }
 {
     let mut bytes = [other; 4200];
-    let mut i = 0;
-    while i < n {
-        bytes[i] = b;
-        i += 1;
-    }
+    bytes[..n].fill(b);
     bytes
 }
 
@@ -74,11 +67,13 @@ fn plan_numbered(rt: &impl Print, q: usize, n: usize, distinct: usize, closed: u
     let base_ends = numbered_ends(n, 1);
     let marks = repeated(at_most(closed, n), 1, 0);
     let planned = plan(
-        &names[0..n * 2],
-        &name_ends[0..n],
-        &bases[0..n],
-        &base_ends[0..n],
-        &marks[0..n],
+        LentCatalogue {
+            identifiers: &names[0..n * 2],
+            identifier_ends: &name_ends[0..n],
+            bases: &bases[0..n],
+            base_ends: &base_ends[0..n],
+            marks: &marks[0..n],
+        },
         q,
     );
     put_plan(rt, planned);

@@ -2,7 +2,10 @@
 ghost use Rattle.std.specs.Prelude.{◌≡◌, ◌≤◌, length};
 
 use crate::Room;
-use index_calls::{Built, check_index};
+use catalogue::lent::LentCatalogue;
+use index_calls::check_index;
+use index_columns::LentIndex;
+use promises::refusal::{Refusal, number_of};
 use test_cases::reading::at_most;
 use test_cases::writing::{put, put_line};
 
@@ -24,22 +27,15 @@ fn put_test(rt: &impl Print, k: usize) {
 }
 
 // Of a refused call what is lent is tested, and where nothing is built nothing can be changed.
-fn tests(b: Built) -> usize {
+fn tests(b: Result<usize, Refusal>) -> usize {
     match b {
-        Built::Refused(n) => 1,
-        Built::Built(n) => if n < 1 { 2 } else { 10 },
-    }
-}
-
-fn built_entries(b: Built) -> usize {
-    match b {
-        Built::Refused(n) => 0,
-        Built::Built(n) => n,
+        Err(_) => 1,
+        Ok(n) => if n < 1 { 2 } else { 10 },
     }
 }
 
 fn one_less(n: usize) -> usize {
-    if n < 1 { 0 } else { n - 1 }
+    n.saturating_sub(1)
 }
 
 // A column with the entry at a place raised by one.
@@ -85,10 +81,7 @@ fn entries(lent: usize, k: usize, own: usize, n: usize) -> usize
     if k == 0 {
         return at_most(lent, 64);
     }
-    if k == 6 {
-        return at_most(one_less(n), 64);
-    }
-    if k == own {
+    if k == 6 || k == own {
         return at_most(one_less(n), 64);
     }
     at_most(n, 64)
@@ -103,11 +96,7 @@ fn run_test(
     ranks: [u64; 64],
     positions: [u64; 64],
     room: Room,
-    identifiers: &[u8],
-    identifier_ends: &[usize],
-    bases: &[u8],
-    base_ends: &[usize],
-    marks: &[u8],
+    catalogue: LentCatalogue<'_>,
     q: usize,
 ) {
     let last = one_less(n);
@@ -119,52 +108,29 @@ fn run_test(
     let c = entries(room.positions, k, 9, n);
     put_test(rt, k);
     let answer = check_index(
-        &ks[0..a],
-        &rs[0..b],
-        &ps[0..c],
-        identifiers,
-        identifier_ends,
-        bases,
-        base_ends,
-        marks,
+        LentIndex {
+            keys: &ks[0..a],
+            ranks: &rs[0..b],
+            positions: &ps[0..c],
+        },
+        catalogue,
         q,
     );
-    put_line(rt, b" ", answer);
+    put_line(rt, b" ", number_of(answer));
 }
 
 pub fn run_tests(
     rt: &impl Print,
-    built: Built,
+    built: Result<usize, Refusal>,
     keys: [u64; 64],
     ranks: [u64; 64],
     positions: [u64; 64],
     room: Room,
-    identifiers: &[u8],
-    identifier_ends: &[usize],
-    bases: &[u8],
-    base_ends: &[usize],
-    marks: &[u8],
+    catalogue: LentCatalogue<'_>,
     q: usize,
 ) {
-    let n = built_entries(built);
-    let end = tests(built);
-    let mut k = 0;
-    while k < end {
-        run_test(
-            rt,
-            k,
-            n,
-            keys,
-            ranks,
-            positions,
-            room,
-            identifiers,
-            identifier_ends,
-            bases,
-            base_ends,
-            marks,
-            q,
-        );
-        k += 1;
+    let n = built.unwrap_or(0);
+    for k in 0..tests(built) {
+        run_test(rt, k, n, keys, ranks, positions, room, catalogue, q);
     }
 }

@@ -1,13 +1,13 @@
 // Answers of `map`, written.
-use map_answers::answer::{MapAnswer, Mapping, state_number};
+use map_answers::answer::{Mapping, state_number};
+use promises::refusal::Refusal;
 use test_cases::writing::{put_line, put_numbers};
 
 // State, number of groups and work counts.
 pub fn put_mapping(rt: &impl Print, m: Mapping) {
-    let state = m.state;
     let work = m.work;
     let numbers = [
-        state_number(state),
+        state_number(m.state),
         m.groups as u64,
         work.lookups,
         work.hits,
@@ -19,10 +19,10 @@ pub fn put_mapping(rt: &impl Print, m: Mapping) {
 }
 
 // An answer, and what the call leaves in the entries.
-pub fn put_answer(rt: &impl Print, answer: MapAnswer, entries: &[u64]) {
+pub fn put_answer(rt: &impl Print, answer: Result<Mapping, Refusal>, entries: &[u64]) {
     match answer {
-        MapAnswer::Refused(n) => put_line(rt, b"refused ", n),
-        MapAnswer::Mapped(m) => put_mapping(rt, m),
+        Err(refusal) => put_line(rt, b"refused ", refusal.number()),
+        Ok(m) => put_mapping(rt, m),
     }
     put_numbers(rt, b"entries", entries);
 }

@@ -5,6 +5,7 @@
 ghost use Rattle.std.specs.Prelude.{◌≤◌, length};
 
 use crate::lent::{Call, run_call};
+use catalogue::lent::LentCatalogue;
 use std::io::Read;
 use test_cases::reading::{case_end, number, part, read_full, room, whole_length, whole_read};
 use test_cases::targets::{
@@ -45,11 +46,13 @@ fn run_case(rt: &impl Print, s: &[u8], records: bool) {
     run_call(
         rt,
         call_of(s, records),
-        identifiers_in(s, lists),
-        &identifier_ends[0..names],
-        bases_in(s, lists),
-        &base_ends[0..sequences],
-        marks_in(s, lists),
+        LentCatalogue {
+            identifiers: identifiers_in(s, lists),
+            identifier_ends: &identifier_ends[0..names],
+            bases: bases_in(s, lists),
+            base_ends: &base_ends[0..sequences],
+            marks: marks_in(s, lists),
+        },
         &read[0..n],
     );
 }
@@ -72,9 +75,7 @@ fn run_block<R: Read>(rt: &impl Print, input: &mut R, records: bool) {
 // Runs the calls of an input, up to 16 blocks of bytes, with the index lent as columns or as records. No case goes
 // over the end of a block.
 pub fn run_blocks<R: Read>(rt: &impl Print, input: &mut R, records: bool) {
-    let mut i: usize = 0;
-    while i < 16 {
+    for _ in 0..16 {
         run_block(rt, input, records);
-        i += 1;
     }
 }

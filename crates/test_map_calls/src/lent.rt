@@ -4,7 +4,9 @@ ghost use Rattle.std.specs.Prelude.{◌≡◌, length};
 
 use crate::answered::put_answer;
 use crate::records::map_records;
+use catalogue::lent::LentCatalogue;
 use index_calls::build;
+use index_columns::LentIndex;
 use indexed_mapper::map::map;
 use test_cases::reading::at_most;
 
@@ -39,48 +41,16 @@ fn lent_column(column: [u64; 256], own: usize, call: Call) -> [u64; 256]
 fn run_map(
     rt: &impl Print,
     entries: &mut [u64],
-    keys: &[u64],
-    ranks: &[u64],
-    positions: &[u64],
-    identifiers: &[u8],
-    identifier_ends: &[usize],
-    bases: &[u8],
-    base_ends: &[usize],
-    marks: &[u8],
+    index: LentIndex<'_>,
+    catalogue: LentCatalogue<'_>,
     read: &[u8],
     call: Call,
 ) {
     if call.records {
-        let answer = map_records(
-            entries,
-            keys,
-            ranks,
-            positions,
-            identifiers,
-            identifier_ends,
-            bases,
-            base_ends,
-            marks,
-            call.q,
-            read,
-            call.limit,
-        );
+        let answer = map_records(entries, index, catalogue, call.q, read, call.limit);
         return put_answer(rt, answer, entries);
     }
-    let answer = map(
-        entries,
-        keys,
-        ranks,
-        positions,
-        identifiers,
-        identifier_ends,
-        bases,
-        base_ends,
-        marks,
-        call.q,
-        read,
-        call.limit,
-    );
+    let answer = map(entries, index, catalogue, call.q, read, call.limit);
     put_answer(rt, answer, entries);
 }
 
@@ -88,75 +58,46 @@ fn run_map(
 fn run_lent(
     rt: &impl Print,
     call: Call,
-    keys: &[u64],
-    ranks: &[u64],
-    positions: &[u64],
-    identifiers: &[u8],
-    identifier_ends: &[usize],
-    bases: &[u8],
-    base_ends: &[usize],
-    marks: &[u8],
+    index: LentIndex<'_>,
+    catalogue: LentCatalogue<'_>,
     read: &[u8],
 ) {
     let mut entries = [999u64; 256];
     let e = at_most(call.entries, 256);
-    let k = at_most(call.keys, keys.len());
-    let r = at_most(call.ranks, ranks.len());
-    let p = at_most(call.positions, positions.len());
+    let k = at_most(call.keys, index.keys.len());
+    let r = at_most(call.ranks, index.ranks.len());
+    let p = at_most(call.positions, index.positions.len());
     run_map(
         rt,
         &mut entries[0..e],
-        &keys[0..k],
-        &ranks[0..r],
-        &positions[0..p],
-        identifiers,
-        identifier_ends,
-        bases,
-        base_ends,
-        marks,
+        LentIndex {
+            keys: &index.keys[0..k],
+            ranks: &index.ranks[0..r],
+            positions: &index.positions[0..p],
+        },
+        catalogue,
         read,
         call,
     );
 }
 
-pub fn run_call(
-    rt: &impl Print,
-    call: Call,
-    identifiers: &[u8],
-    identifier_ends: &[usize],
-    bases: &[u8],
-    base_ends: &[usize],
-    marks: &[u8],
-    read: &[u8],
-) {
+pub fn run_call(rt: &impl Print, call: Call, catalogue: LentCatalogue<'_>, read: &[u8]) {
     let mut keys = [7u64; 256];
     let mut ranks = [7u64; 256];
     let mut positions = [7u64; 256];
-    build(
-        &mut keys,
-        &mut ranks,
-        &mut positions,
-        identifiers,
-        identifier_ends,
-        bases,
-        base_ends,
-        marks,
-        call.q,
-    );
+    let _ = build(&mut keys, &mut ranks, &mut positions, catalogue, call.q);
     let ks = lent_column(keys, 1, call);
     let rs = lent_column(ranks, 2, call);
     let ps = lent_column(positions, 3, call);
     run_lent(
         rt,
         call,
-        &ks,
-        &rs,
-        &ps,
-        identifiers,
-        identifier_ends,
-        bases,
-        base_ends,
-        marks,
+        LentIndex {
+            keys: &ks,
+            ranks: &rs,
+            positions: &ps,
+        },
+        catalogue,
         read,
     );
 }

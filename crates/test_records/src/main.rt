@@ -4,7 +4,10 @@
 
 ghost use Rattle.std.specs.Prelude.{◌≡◌, length};
 
+use catalogue::lent::LentCatalogue;
 use index_calls::build;
+use index_columns::LentIndex;
+use index_model::ranked::RankedTargets;
 use map_by_index::work::MappingWork;
 use map_candidates::cursor::OrientationCursor;
 use map_cursor::{Step, advanced};
@@ -65,7 +68,18 @@ fn run_cursor(rt: &impl Print, next: usize, end: usize, offset: usize, n: usize,
         comparisons: 13,
         seen: 14,
     };
-    let step = advanced(cursor, work, &bases, &ends, &ranked, &ranks, &positions, n);
+    let step = advanced(
+        cursor,
+        work,
+        RankedTargets {
+            bases: &bases,
+            ends: &ends,
+            ranked: &ranked,
+        },
+        &ranks,
+        &positions,
+        n,
+    );
     put_step(rt, step);
 }
 
@@ -78,24 +92,30 @@ fn index() -> [SeedPosting; 256]
     let mut ks = [0u64; 6];
     let mut rs = [0u64; 6];
     let mut os = [0u64; 6];
-    build(
+    let _ = build(
         &mut ks,
         &mut rs,
         &mut os,
-        b"t",
-        &identifier_ends,
-        b"ACGTACGT",
-        &base_ends,
-        b"\0",
+        LentCatalogue {
+            identifiers: b"t",
+            identifier_ends: &identifier_ends,
+            bases: b"ACGTACGT",
+            base_ends: &base_ends,
+            marks: b"\0",
+        },
         3,
     );
-    records_of(&ks, &rs, &os)
+    records_of(LentIndex {
+        keys: &ks,
+        ranks: &rs,
+        positions: &os,
+    })
 }
 
-fn put_columns(rt: &impl Print, keys: &[u64], ranks: &[u64], positions: &[u64]) {
-    put_numbers(rt, b"keys", keys);
-    put_numbers(rt, b"ranks", ranks);
-    put_numbers(rt, b"positions", positions);
+fn put_columns(rt: &impl Print, index: LentIndex<'_>) {
+    put_numbers(rt, b"keys", index.keys);
+    put_numbers(rt, b"ranks", index.ranks);
+    put_numbers(rt, b"positions", index.positions);
 }
 
 // Maps a read with the first n records of the index, and writes the answer and what is left in the buffers.
@@ -118,17 +138,26 @@ fn run_lent(
         positions,
         index(),
         at_most(n, 256),
-        b"t",
-        &identifier_ends,
-        b"ACGTACGT",
-        &base_ends,
-        b"\0",
+        LentCatalogue {
+            identifiers: b"t",
+            identifier_ends: &identifier_ends,
+            bases: b"ACGTACGT",
+            base_ends: &base_ends,
+            marks: b"\0",
+        },
         q,
         read,
         10,
     );
     put_answer(rt, answer, entries);
-    put_columns(rt, keys, ranks, positions);
+    put_columns(
+        rt,
+        LentIndex {
+            keys,
+            ranks,
+            positions,
+        },
+    );
 }
 
 // Lends columns of these lengths that hold sevens.

@@ -1,14 +1,7 @@
 -- `audit_book_fragment::raise_counters` meets its contract.
-use native.Mathlib.Omega.{arith}
 use Rattle.audit_ledger.specs.Booking.{counters_of}
-use Rattle.audit_book_fragment.proofs.Raises.{placements_raisable, singles_raisable, multi_raisable, raised_are}
+use Rattle.audit_book_fragment.proofs.Raises.{singles_raisable, multi_raisable, raised_are}
 use Rattle.audit_book_fragment.proofs.raise_counters.Goals as goal
-
-pub raise_targets-requires : goal.raise_targets-requires
-raise_targets-requires c =
-    let a = c.args in
-    let k = counters_of a.placements.now a.singles.now a.multi.now in
-    placements_raisable a.n a.entries.now k c.requires _ (omega arith)
 
 pub raise_targets-requires-2 : goal.raise_targets-requires-2
 raise_targets-requires-2 c =

@@ -1,10 +1,7 @@
 use mathlib.Core.Path.{sym, ◌∙◌}
-use Rattle.audit_counters.proofs.Choosing.{runs_start, runs_more, runs_same, runs_end}
+use Rattle.audit_counters.proofs.Choosing.{runs_more, runs_same, runs_end}
 use Rattle.audit_counters.proofs.count_runs.Goals as goal
 use Rattle.audit_counters.proofs.count_runs.Goals.{then-counts, else-counts}
-
-pub loop-i-init : goal.loop-i-init
-loop-i-init c = runs_start _ _
 
 pub loop-i-preserved : goal.loop-i-preserved
 loop-i-preserved c =

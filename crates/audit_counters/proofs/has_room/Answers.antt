@@ -1,37 +1,18 @@
-use Prim.Native.Nat.{◌*◌}
+-- `audit_counters::has_room` meets its contract.
+use mathlib.Core.Path.{◌∙◌}
+use Prim.Native.Nat.{◌-◌, ◌*◌}
 use native.Mathlib.Omega.{arith}
+use lib.Dec.{leb}
 use lib.ListN.{get_or}
-use Rattle.audit_counters.specs.Targets.{targets_in}
-use Rattle.audit_counters.proofs.Choosing.{length-targets, targets-at}
-use Rattle.audit_counters.proofs.Room.{room_start, room_end, room-stop, room_go}
+use Rattle.std.proofs.Common.{rules, tests}
+use Rattle.std.proofs.lemmas.Iterator.{YieldsList-from_range}
+use Rattle.std.proofs.lemmas.Iterator.Search.{all_from_yields_List}
+use Rattle.audit_ledger.specs.Booking.{max_counter}
+use Rattle.audit_counters.proofs.Room.{room_pass}
 use Rattle.audit_counters.proofs.has_room.Goals as goal
-
-pub loop-i-init : goal.loop-i-init
-loop-i-init c = room_start _ _ _
-
-pub offset_bounds-counters-target : goal.offset_bounds-counters-target
-offset_bounds-counters-target c = omega (arith, c.requires.inside c.loop-i.i c.loop-i-test.true, c.type_inv)
-
-pub bounds-counters-target : goal.bounds-counters-target
-bounds-counters-target c = omega (arith, c.requires.inside c.loop-i.i c.loop-i-test.true)
-
-pub returns-then-most-counters : goal.returns-then-most-counters
-returns-then-most-counters c =
-    let a = c.args in
-    let l = c.loop-i in
-    let many = length-targets a.n a.entries.now in
-    room-stop a.more (targets_in a.n a.entries.now) a.counters.now l.i l.invariant (omega (arith, many, c.loop-i-test.true)) (get_or a.entries.now (4 * l.i) 0) (targets-at a.n a.entries.now l.i c.loop-i-test.true) (omega (arith, c.if-most-counters.true))
-
-pub loop-i-preserved : goal.loop-i-preserved
-loop-i-preserved c =
-    let a = c.args in
-    let l = c.loop-i in
-    let many = length-targets a.n a.entries.now in
-    room_go a.more (targets_in a.n a.entries.now) a.counters.now l.i l.invariant (omega (arith, many, c.loop-i-test.true)) (get_or a.entries.now (4 * l.i) 0) (targets-at a.n a.entries.now l.i c.loop-i-test.true) (omega (arith, c.if-most-counters.false, c.ranges))
 
 pub returns : goal.returns
 returns c =
     let a = c.args in
-    let l = c.loop-i in
-    let many = length-targets a.n a.entries.now in
-    room_end a.more (targets_in a.n a.entries.now) a.counters.now l.i l.invariant (omega (arith, many, c.loop-i-test.false))
+    all_from_yields_List (λ i. leb (get_or a.counters.now (get_or a.entries.now (4 * i) 0) 0) (max_counter - a.more)) _ _ _ c.all.ensures.ran (YieldsList-from_range 0 a.n a.n (cc) (omega arith)) (λ x b q k. search (rules, tests))
+    ∙ room_pass a.more a.entries.now a.counters.now (omega arith) a.n

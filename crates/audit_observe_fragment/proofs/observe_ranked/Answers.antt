@@ -1,6 +1,6 @@
 -- `audit_observe_fragment::observe_ranked` meets its contract: what was observed stands, or is refused 17.
 use native.Mathlib.Omega.{arith}
-use borrow.Author.Tests.{not-true, not-false}
+use Rattle.std.proofs.Common.{◌∙◌}
 use Rattle.map_every_start.specs.Entries.{entry_count}
 use Rattle.audit_observe_reads.proofs.Fragment.{known_within}
 use Rattle.audit_observe_fragment.proofs.Observed.{ranked_postable, ranked_done, ranked_full}
@@ -15,14 +15,14 @@ overflow_mul-width c =
 pub post_answer-posted-requires : goal.post_answer-posted-requires
 post_answer-posted-requires c =
     let a = c.args in
-    ranked_postable a.indexed a.q a.bases.now a.ends.now a.ranked.now a.keys.now a.ranks.now a.positions.now a.first.now a.second.now a.searched a.settings _ c.requires a.first_role a.second_role a.entries.now _ _ c.search_reads-answer.ensures _ c.share_of-width.ensures
+    ranked_postable a.indexed a.q a.targets.bases.now a.targets.ends.now a.targets.ranked.now a.index.keys.now a.index.ranks.now a.index.positions.now a.first.now a.second.now a.searched a.settings _ c.requires a.first_role a.second_role a.entries.now _ _ c.search_reads-answer.ensures _ c.share_of-width.ensures
 
-pub returns-then-not-posted : goal.returns-then-not-posted
-returns-then-not-posted c =
+pub returns-then-is_none : goal.returns-then-is_none
+returns-then-is_none c =
     let a = c.args in
-    ranked_full a.indexed a.q a.bases.now a.ends.now a.ranked.now a.keys.now a.ranks.now a.positions.now a.first.now a.second.now a.searched a.settings _ c.requires a.first_role a.second_role a.entries.now _ _ c.search_reads-answer.ensures _ c.share_of-width.ensures a.ledger _ c.post_answer-posted.ensures (not-true _ c.if-not-posted.true) _ c.clear_entries.ensures 17 (omega arith)
+    ranked_full a.indexed a.q a.targets.bases.now a.targets.ends.now a.targets.ranked.now a.index.keys.now a.index.ranks.now a.index.positions.now a.first.now a.second.now a.searched a.settings _ c.requires a.first_role a.second_role a.entries.now _ _ c.search_reads-answer.ensures _ c.share_of-width.ensures a.ledger _ c.post_answer-posted.ensures (c.is_none.ensures ∙ rw c.if-is_none.true) _ c.clear_entries.ensures
 
 pub returns : goal.returns
 returns c =
     let a = c.args in
-    ranked_done a.indexed a.q a.bases.now a.ends.now a.ranked.now a.keys.now a.ranks.now a.positions.now a.first.now a.second.now a.searched a.settings _ c.requires a.first_role a.second_role a.entries.now _ _ c.search_reads-answer.ensures _ c.share_of-width.ensures a.ledger _ c.post_answer-posted.ensures (not-false _ c.if-not-posted.false)
+    ranked_done a.indexed a.q a.targets.bases.now a.targets.ends.now a.targets.ranked.now a.index.keys.now a.index.ranks.now a.index.positions.now a.first.now a.second.now a.searched a.settings _ c.requires a.first_role a.second_role a.entries.now _ _ c.search_reads-answer.ensures _ c.share_of-width.ensures a.ledger _ c.post_answer-posted.ensures (c.is_none.ensures ∙ rw c.if-is_none.false)

@@ -5,12 +5,12 @@ use Rattle.audit_model.specs.Calls.{index_if}
 use Rattle.audit_open.proofs.Starting.{opening_refused, opening_done}
 use Rattle.audit_open.proofs.open_audit.Goals as goal
 
-pub returns-in-Refused : goal.returns-in-Refused
-returns-in-Refused c =
+pub returns-in-Err : goal.returns-in-Err
+returns-in-Err c =
     let a = c.args in
-    opening_refused _ _ _ (index_if a.indexed a.keys.now a.ranks.now a.positions.now) _ (counters_of a.placements.now a.singles.now a.multi.now) _ _ c.check_opening-ranking.ensures _ c.in-Refused.is _ c.zero_state.ensures _ refl
+    opening_refused _ _ _ (index_if a.indexed a.index.keys.now a.index.ranks.now a.index.positions.now) _ (counters_of a.placements.now a.singles.now a.multi.now) _ _ c.check_opening-ranking.ensures _ c.in-Err.is _ c.zero_state.ensures _ refl
 
-pub returns-in-Ranked : goal.returns-in-Ranked
-returns-in-Ranked c =
+pub returns-in-Ok : goal.returns-in-Ok
+returns-in-Ok c =
     let a = c.args in
-    opening_done _ _ _ (index_if a.indexed a.keys.now a.ranks.now a.positions.now) _ (counters_of a.placements.now a.singles.now a.multi.now) _ _ c.check_opening-ranking.ensures _ c.in-Ranked.is _ c.fresh_state.ensures _ _ _ c.zero_numbers.ensures c.zero_numbers-in-Ranked.ensures c.zero_numbers-in-Ranked-2.ensures
+    opening_done _ _ _ (index_if a.indexed a.index.keys.now a.index.ranks.now a.index.positions.now) _ (counters_of a.placements.now a.singles.now a.multi.now) _ _ c.check_opening-ranking.ensures _ c.in-Ok.is _ c.fresh_state.ensures _ _ _ c.zero_numbers.ensures c.zero_numbers-in-Ok.ensures c.zero_numbers-in-Ok-2.ensures

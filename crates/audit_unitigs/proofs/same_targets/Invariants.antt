@@ -1,6 +1,4 @@
 -- `audit_unitigs::same_targets` meets its contract. The invariant: `Alike`, the answer for the places from i on is the answer for all.
-use Prim.Native.Nat.{◌-◌}
-use lib.ListN.{length}
 use Rattle.lists.specs.Cut.{cut}
 use Rattle.audit_unitigs.proofs.Comparing.{Alike}
 use Rattle.audit_unitigs.proofs.same_targets.Given as goal
@@ -8,6 +6,3 @@ use Rattle.audit_unitigs.proofs.same_targets.Given as goal
 abbrev pub invariant-loop-i : goal.invariant-loop-i
 invariant-loop-i l =
     Alike (cut l.ends l.identifiers) l.marks (cut l.other_ends l.other_identifiers) l.other_marks l.i
-
-abbrev pub decreases-loop-i : goal.decreases-loop-i
-decreases-loop-i l = length l.ends - l.i

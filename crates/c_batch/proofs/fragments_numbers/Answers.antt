@@ -1,5 +1,5 @@
 -- `c_batch::fragments_numbers` meets its contract: 26, or the call behind it.
-use Rattle.catalogue.specs.Catalogue.{lent_catalogue}
+use Rattle.catalogue.specs.Catalogue.{catalogue_in}
 use mathlib.Core.Path.{sym, ◌∙◌}
 use Rattle.audit_ledger.specs.Booking.{counters_of}
 use Rattle.audit_model.specs.Opening.{columns}
@@ -11,7 +11,7 @@ use Rattle.c_batch.proofs.fragments_numbers.Goals as goal
 pub returns-then-not-is_state : goal.returns-then-not-is_state
 returns-then-not-is_state c =
     let a = c.args in
-    no_state (lent_catalogue a.identifiers.now a.identifier_ends.now a.bases.now a.base_ends.now a.marks.now) (columns a.keys.now a.ranks.now a.positions.now) (counters_of a.placements.now a.singles.now a.multi.now) (fragment_lists a.ordinals.now a.counts.now (read_lists a.roles.now a.reads.now a.read_ends.now a.quality_marks.now a.qualities.now a.quality_ends.now)) a.state.now a.rows.now a.entries.now (sym c.is_state.ensures ∙ c.if-not-is_state.true)
+    no_state (catalogue_in a.catalogue) (columns a.index.keys.now a.index.ranks.now a.index.positions.now) (counters_of a.placements.now a.singles.now a.multi.now) (fragment_lists a.ordinals.now a.counts.now (read_lists a.reads.roles.now a.reads.bases.now a.reads.base_ends.now a.reads.marks.now a.reads.qualities.now a.reads.quality_ends.now)) a.state.now a.rows.now a.entries.now (sym c.is_state.ensures ∙ c.if-not-is_state.true)
 
 pub state_of-held-requires : goal.state_of-held-requires
 state_of-held-requires c = sym c.is_state.ensures ∙ c.if-not-is_state.false
@@ -22,4 +22,4 @@ put_state-requires c = (state_parts c.args.state.now (sym c.is_state.ensures ∙
 pub returns : goal.returns
 returns c =
     let a = c.args in
-    list_told (lent_catalogue a.identifiers.now a.identifier_ends.now a.bases.now a.base_ends.now a.marks.now) (columns a.keys.now a.ranks.now a.positions.now) (counters_of a.placements.now a.singles.now a.multi.now) (fragment_lists a.ordinals.now a.counts.now (read_lists a.roles.now a.reads.now a.read_ends.now a.quality_marks.now a.qualities.now a.quality_ends.now)) a.state.now a.rows.now a.entries.now (sym c.is_state.ensures ∙ c.if-not-is_state.false) _ c.state_of-held.ensures _ _ _ _ c.fragments-audit.ensures _ c.put_state.ensures _ c.number_of.ensures
+    list_told (catalogue_in a.catalogue) (columns a.index.keys.now a.index.ranks.now a.index.positions.now) (counters_of a.placements.now a.singles.now a.multi.now) (fragment_lists a.ordinals.now a.counts.now (read_lists a.reads.roles.now a.reads.bases.now a.reads.base_ends.now a.reads.marks.now a.reads.qualities.now a.reads.quality_ends.now)) a.state.now a.rows.now a.entries.now (sym c.is_state.ensures ∙ c.if-not-is_state.false) _ c.state_of-held.ensures _ _ _ _ c.fragments-audit.ensures _ c.put_state.ensures _ c.number_of.ensures

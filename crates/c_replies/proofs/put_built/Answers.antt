@@ -3,8 +3,8 @@ use mathlib.Core.Path.{refl}
 use Rattle.c_replies.proofs.Writing.{put_2}
 use Rattle.c_replies.proofs.put_built.Goals as goal
 
-pub returns-in-Refused : goal.returns-in-Refused
-returns-in-Refused c = rw c.in-Refused.is (record { number = refl; written = put_2 c.args.answer.now _ _ c.requires })
+pub returns-in-Err : goal.returns-in-Err
+returns-in-Err c = rw c.in-Err.is (rw (← c.number-refusal.ensures) (record { number = refl; written = put_2 c.args.answer.now _ _ c.requires }))
 
-pub returns-in-Built : goal.returns-in-Built
-returns-in-Built c = rw c.in-Built.is (record { number = refl; written = put_2 c.args.answer.now _ _ c.requires })
+pub returns-in-Ok : goal.returns-in-Ok
+returns-in-Ok c = rw c.in-Ok.is (record { number = refl; written = put_2 c.args.answer.now _ _ c.requires })

@@ -6,14 +6,14 @@ use Rattle.c_sheet.proofs.Writing.{put_refused, put_accepted, length_sheet}
 use borrow.Author.Rules.{rules}
 use Rattle.c_sheet.proofs.put_finish.Goals as goal
 
-pub shape_of-answer-in-Refused : goal.shape_of-answer-in-Refused
-shape_of-answer-in-Refused c = omega (arith, simp length-set at c.answer-1.given)
+pub shape_of-answer-in-Err : goal.shape_of-answer-in-Err
+shape_of-answer-in-Err c = omega (arith, simp length-set at c.answer-1.given)
 
-pub returns-in-Refused : goal.returns-in-Refused
-returns-in-Refused c = put_refused c.args.finish c.args.answer.now c.requires _ _ _ _ c.in-Refused.is (omega arith) (omega arith) c.copy_numbers.ensures
+pub returns-in-Err : goal.returns-in-Err
+returns-in-Err c = put_refused c.args.finish c.args.answer.now c.requires _ _ _ _ c.in-Err.is (omega arith) (omega arith) c.copy_numbers.ensures
 
-pub shape_of-answer-in-Accepted : goal.shape_of-answer-in-Accepted
-shape_of-answer-in-Accepted c = omega (arith, simp length-set at c.answer-in-Accepted-1.given)
+pub shape_of-answer-in-Ok : goal.shape_of-answer-in-Ok
+shape_of-answer-in-Ok c = omega (arith, simp length-set at c.answer-in-Ok-1.given)
 
-pub returns-in-Accepted : goal.returns-in-Accepted
-returns-in-Accepted c = let lt : length c.args.finish.sheet.table ≡ 18 = search rules in put_accepted c.args.finish c.args.answer.now c.requires _ _ _ (length_sheet c.args.finish.sheet lt) c.in-Accepted.is (omega arith) (omega arith) c.put_sheet.ensures
+pub returns-in-Ok : goal.returns-in-Ok
+returns-in-Ok c = let lt : length c.args.finish.sheet.table ≡ 18 = search rules in put_accepted c.args.finish c.args.answer.now c.requires _ _ _ (length_sheet c.args.finish.sheet lt) c.in-Ok.is (omega arith) (omega arith) c.put_sheet.ensures

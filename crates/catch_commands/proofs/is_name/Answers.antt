@@ -1,18 +1,10 @@
-use native.Mathlib.Omega.{arith}
-use Rattle.catch_commands.proofs.Names.{start, too_low, too_high, step, stop}
+-- `catch_commands::is_name` meets its contract: every byte passes the test.
+use Rattle.std.proofs.Common.{rules}
+use Rattle.std.proofs.lemmas.Iterator.{YieldsList-from_slice}
+use Rattle.std.proofs.lemmas.Iterator.Search.{all_from_yields_List}
+use borrow.Author.Tests.{tests}
+use Rattle.catch_commands.specs.Commands.{is_name_byte}
 use Rattle.catch_commands.proofs.is_name.Goals as goal
 
-pub loop-i-init : goal.loop-i-init
-loop-i-init c = start _
-
-pub returns-then-byte-lt33 : goal.returns-then-byte-lt33
-returns-then-byte-lt33 c = too_low _ _ c.loop-i.invariant (omega arith) (omega arith)
-
-pub returns-then-byte-gt126 : goal.returns-then-byte-gt126
-returns-then-byte-gt126 c = too_high _ _ c.loop-i.invariant (omega arith) (omega arith) (omega arith)
-
-pub loop-i-preserved : goal.loop-i-preserved
-loop-i-preserved c = step _ _ c.loop-i.invariant (omega arith) (omega arith) (omega arith)
-
 pub returns : goal.returns
-returns c = stop _ _ c.loop-i.invariant (omega arith)
+returns c = all_from_yields_List is_name_byte _ _ _ c.all.ensures.ran (YieldsList-from_slice c.args.bytes.now cc) (λ x b q k. search (rules, tests))

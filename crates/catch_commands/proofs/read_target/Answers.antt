@@ -3,7 +3,6 @@ use mathlib.Core.Path.{refl, sym, ◌∙◌}
 use Prim.Native.Nat.{◌+◌, ◌-◌, ◌<◌, ◌≤◌}
 use native.Mathlib.Omega.{arith}
 use lib.ListN.{get_or}
-use Rattle.catch_commands.specs.Commands.{target_fits}
 use Rattle.catch_commands.proofs.Targets.{target_count, target_none, target_refused, target_short, target_misnamed, target_read, target_within}
 use Rattle.catch_commands.proofs.read_target.Goals as goal
 

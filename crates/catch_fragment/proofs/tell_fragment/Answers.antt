@@ -16,7 +16,7 @@ pub put_answer-end-requires : goal.put_answer-end-requires
 put_answer-end-requires c =
     let a = c.args in
     let t = c.audit_tested-audit in
-    answer_lent a.bases.now a.base_ends.now a.ranked.now a.keys.now a.ranks.now a.positions.now a.identifiers.now a.identifier_ends.now a.bytes.now a.head (held_of a.state a.placements.now a.singles.now a.multi.now) a.entries.now a.out.now a.at c.requires c.share_of-width.result c.share_of-width.ensures t.new.entries t.auto.entries _ _ _ t.result.answer t.ensures.observed
+    answer_lent a.targets.bases.now a.targets.ends.now a.targets.ranked.now a.index.keys.now a.index.ranks.now a.index.positions.now a.identifiers.now a.identifier_ends.now a.bytes.now a.head (held_of a.state a.placements.now a.singles.now a.multi.now) a.entries.now a.out.now a.at c.requires c.share_of-width.result c.share_of-width.ensures t.new.entries t.auto.entries _ _ _ t.result.answer t.ensures.observed
 
 pub returns : goal.returns
 returns c =
@@ -24,5 +24,5 @@ returns c =
     let t = c.audit_tested-audit in
     record {
       audited = t.ensures;
-      adds = answer_written a.bases.now a.base_ends.now a.ranked.now a.keys.now a.ranks.now a.positions.now a.identifiers.now a.identifier_ends.now a.bytes.now a.head (held_of a.state a.placements.now a.singles.now a.multi.now) a.entries.now a.out.now a.at c.requires c.share_of-width.result c.share_of-width.ensures t.new.entries t.auto.entries _ _ _ t.result.answer t.ensures.observed _ _ c.put_answer-end.ensures;
+      adds = answer_written a.targets.bases.now a.targets.ends.now a.targets.ranked.now a.index.keys.now a.index.ranks.now a.index.positions.now a.identifiers.now a.identifier_ends.now a.bytes.now a.head (held_of a.state a.placements.now a.singles.now a.multi.now) a.entries.now a.out.now a.at c.requires c.share_of-width.result c.share_of-width.ensures t.new.entries t.auto.entries _ _ _ t.result.answer t.ensures.observed _ _ c.put_answer-end.ensures;
     }

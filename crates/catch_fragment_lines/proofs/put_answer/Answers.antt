@@ -3,55 +3,55 @@ use native.Mathlib.Omega.{arith}
 use Rattle.lists.specs.Cut.{cut}
 use Rattle.audit_model.specs.Settings.{role_number}
 use Rattle.audit_model.specs.Calls.{mapping_row}
-use Rattle.catch_fragment_lines.proofs.Answering.{two_added, lent_single, lent_paired, room_of, lines_of, part_lent, part_lines}
+use Rattle.catch_fragment_lines.proofs.Answering.{answered, two_added, lent_single, lent_paired, room_of, lines_of, part_lent, part_lines}
 use Rattle.catch_fragment_lines.proofs.put_answer.Goals as goal
 
 pub put_refusal-requires : goal.put_refusal-requires
 put_refusal-requires c =
     let a = c.args in
-    room_of a.at _ a.answer _ c.in-Refused.is c.requires.1
+    room_of a.at _ a.answer _ c.in-Err.is c.requires.1
 
 pub put_mate-requires : goal.put_mate-requires
 put_mate-requires c =
     let a = c.args in
-    (lent_single a.identifiers.now a.ends.now a.entries.now a.width a.answer c.requires.0 _ c.in-Single.is, room_of a.at _ a.answer _ c.in-Single.is c.requires.1)
+    (lent_single a.identifiers.now a.ends.now a.entries.now a.width a.answer c.requires.0 _ (answered c.in-Ok-Single.is (rw c.in-Ok-Single.is at c.in-Ok-Single.field-0-is)), room_of a.at _ a.answer _ (answered c.in-Ok-Single.is (rw c.in-Ok-Single.is at c.in-Ok-Single.field-0-is)) c.requires.1)
 
 pub put_mate-a-requires : goal.put_mate-a-requires
 put_mate-a-requires c =
     let a = c.args in
-    ((lent_paired a.identifiers.now a.ends.now a.entries.now a.width a.answer c.requires.0 _ c.in-Paired.is).0, omega (arith, room_of a.at _ a.answer _ c.in-Paired.is c.requires.1))
+    ((lent_paired a.identifiers.now a.ends.now a.entries.now a.width a.answer c.requires.0 _ (answered c.in-Ok-Paired.is (rw c.in-Ok-Paired.is at c.in-Ok-Paired.field-0-is))).0, omega (arith, room_of a.at _ a.answer _ (answered c.in-Ok-Paired.is (rw c.in-Ok-Paired.is at c.in-Ok-Paired.field-0-is)) c.requires.1))
 
 pub offset_bounds-entries-width : goal.offset_bounds-entries-width
 offset_bounds-entries-width c =
     let a = c.args in
-    omega (arith, (lent_paired a.identifiers.now a.ends.now a.entries.now a.width a.answer c.requires.0 _ c.in-Paired.is).2)
+    omega (arith, (lent_paired a.identifiers.now a.ends.now a.entries.now a.width a.answer c.requires.0 _ (answered c.in-Ok-Paired.is (rw c.in-Ok-Paired.is at c.in-Ok-Paired.field-0-is))).2)
 
 pub slice_bounds-put_mate-count : goal.slice_bounds-put_mate-count
 slice_bounds-put_mate-count c =
     let a = c.args in
-    omega (arith, (lent_paired a.identifiers.now a.ends.now a.entries.now a.width a.answer c.requires.0 _ c.in-Paired.is).2)
+    omega (arith, (lent_paired a.identifiers.now a.ends.now a.entries.now a.width a.answer c.requires.0 _ (answered c.in-Ok-Paired.is (rw c.in-Ok-Paired.is at c.in-Ok-Paired.field-0-is))).2)
 
 pub slice_bounds-put_mate-start : goal.slice_bounds-put_mate-start
 slice_bounds-put_mate-start c =
     let a = c.args in
-    omega (arith, (lent_paired a.identifiers.now a.ends.now a.entries.now a.width a.answer c.requires.0 _ c.in-Paired.is).2)
+    omega (arith, (lent_paired a.identifiers.now a.ends.now a.entries.now a.width a.answer c.requires.0 _ (answered c.in-Ok-Paired.is (rw c.in-Ok-Paired.is at c.in-Ok-Paired.field-0-is))).2)
 
-pub put_mate-requires-in-Paired : goal.put_mate-requires-in-Paired
-put_mate-requires-in-Paired c =
+pub put_mate-requires-in-Ok-Paired : goal.put_mate-requires-in-Ok-Paired
+put_mate-requires-in-Ok-Paired c =
     let a = c.args in
-    (part_lent a.identifiers.now a.ends.now a.entries.now a.width _ (lent_paired a.identifiers.now a.ends.now a.entries.now a.width a.answer c.requires.0 _ c.in-Paired.is).1, omega (arith, room_of a.at _ a.answer _ c.in-Paired.is c.requires.1, c.put_mate-a.ensures.room, c.put_mate-a.auto.out))
+    (part_lent a.identifiers.now a.ends.now a.entries.now a.width _ (lent_paired a.identifiers.now a.ends.now a.entries.now a.width a.answer c.requires.0 _ (answered c.in-Ok-Paired.is (rw c.in-Ok-Paired.is at c.in-Ok-Paired.field-0-is))).1, omega (arith, room_of a.at _ a.answer _ (answered c.in-Ok-Paired.is (rw c.in-Ok-Paired.is at c.in-Ok-Paired.field-0-is)) c.requires.1, c.put_mate-a.ensures.room, c.put_mate-a.auto.out))
 
-pub returns-in-Refused : goal.returns-in-Refused
-returns-in-Refused c =
+pub returns-in-Err : goal.returns-in-Err
+returns-in-Err c =
     let a = c.args in
-    lines_of _ a.ordinal _ _ a.width a.entries.now a.out.now a.at _ _ a.answer _ c.in-Refused.is c.put_refusal.ensures
+    lines_of _ a.ordinal _ _ a.width a.entries.now a.out.now a.at _ _ a.answer _ c.in-Err.is c.put_refusal.ensures
 
-pub returns-in-Single : goal.returns-in-Single
-returns-in-Single c =
+pub returns-in-Ok-Single : goal.returns-in-Ok-Single
+returns-in-Ok-Single c =
     let a = c.args in
-    lines_of _ a.ordinal _ _ a.width a.entries.now a.out.now a.at _ _ a.answer _ c.in-Single.is c.put_mate.ensures
+    lines_of _ a.ordinal _ _ a.width a.entries.now a.out.now a.at _ _ a.answer _ (answered c.in-Ok-Single.is (rw c.in-Ok-Single.is at c.in-Ok-Single.field-0-is)) c.put_mate.ensures
 
-pub returns-in-Paired : goal.returns-in-Paired
-returns-in-Paired c =
+pub returns-in-Ok-Paired : goal.returns-in-Ok-Paired
+returns-in-Ok-Paired c =
     let a = c.args in
-    lines_of _ a.ordinal _ _ a.width a.entries.now a.out.now a.at _ _ a.answer _ c.in-Paired.is (two_added c.put_mate-a.ensures (part_lines (cut a.ends.now a.identifiers.now) a.ordinal (role_number a.second_role) (mapping_row c.in-Paired.mates.second) a.entries.now a.width _ _ _ _ _ c.put_mate-in-Paired.ensures))
+    lines_of _ a.ordinal _ _ a.width a.entries.now a.out.now a.at _ _ a.answer _ (answered c.in-Ok-Paired.is (rw c.in-Ok-Paired.is at c.in-Ok-Paired.field-0-is)) (two_added c.put_mate-a.ensures (part_lines (cut a.ends.now a.identifiers.now) a.ordinal (role_number a.second_role) (mapping_row c.in-Ok-Paired.mates.second) a.entries.now a.width _ _ _ _ _ c.put_mate-in-Ok-Paired.ensures))

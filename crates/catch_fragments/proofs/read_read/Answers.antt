@@ -3,7 +3,6 @@ use mathlib.Core.Path.{refl, sym, ◌∙◌}
 use Prim.Native.Nat.{◌+◌, ◌-◌, ◌≤◌}
 use native.Mathlib.Omega.{arith}
 use lib.ListN.{get_or}
-use Rattle.catch_commands.specs.Commands.{read_fits}
 use Rattle.catch_fragments.proofs.Mates.{read_most, qualities_most, read_none, no_read, read_headless, read_refused, read_short, read_found}
 use Rattle.catch_fragments.proofs.read_read.Goals as goal
 

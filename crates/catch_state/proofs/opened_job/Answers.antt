@@ -3,8 +3,8 @@ use mathlib.Core.Path.{sym, ap}
 use Rattle.catch_state.specs.Jobs.{opened_job}
 use Rattle.catch_state.proofs.opened_job.Goals as goal
 
-pub returns-in-Stopped : goal.returns-in-Stopped
-returns-in-Stopped c = let a = c.args in sym (ap (opened_job a.at a.job) c.in-Stopped.is)
+pub returns-in-Err : goal.returns-in-Err
+returns-in-Err c = let a = c.args in sym (ap (opened_job a.at a.job) c.in-Err.is)
 
-pub returns-in-Indexed : goal.returns-in-Indexed
-returns-in-Indexed c = let a = c.args in sym (ap (opened_job a.at a.job) c.in-Indexed.is)
+pub returns-in-Ok : goal.returns-in-Ok
+returns-in-Ok c = let a = c.args in sym (ap (opened_job a.at a.job) c.in-Ok.is)

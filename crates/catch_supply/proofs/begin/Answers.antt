@@ -8,17 +8,17 @@ returns-then-code-ne1 c =
     let a = c.args in
     begin_elsewhere a.ended a.code a.bytes.now a.out.now a.at _ _ (λ e. omega arith) c.refuse.ensures
 
-pub returns-in-Read : goal.returns-in-Read
-returns-in-Read c =
+pub returns-in-Ok : goal.returns-in-Ok
+returns-in-Ok c =
     let a = c.args in
-    begin_reads a.ended a.code a.bytes.now a.out.now a.at (omega arith) _ c.read_settings.ensures _ c.in-Read.is
+    begin_reads a.ended a.code a.bytes.now a.out.now a.at (omega arith) c.in-Ok.settings c.in-Ok.ensures
 
-pub returns-in-Wrong : goal.returns-in-Wrong
-returns-in-Wrong c =
+pub returns-in-Err-Wrong : goal.returns-in-Err-Wrong
+returns-in-Err-Wrong c =
     let a = c.args in
-    begin-refuses a.ended a.code a.bytes.now a.out.now a.at (omega arith) _ c.read_settings.ensures _ _ c.in-Wrong.is c.refuse-in-Wrong.ensures
+    begin-refuses a.ended a.code a.bytes.now a.out.now a.at (omega arith) _ _ (rw c.in-Err-Wrong.field-0-is at c.in-Err-Wrong.ensures) c.refuse-in-Err-Wrong.ensures
 
-pub returns-in-More : goal.returns-in-More
-returns-in-More c =
+pub returns-in-Err-More : goal.returns-in-Err-More
+returns-in-Err-More c =
     let a = c.args in
-    begin-stays a.ended a.code a.bytes.now a.out.now a.at (omega arith) _ c.read_settings.ensures _ _ c.in-More.is c.wait_or_refuse.ensures
+    begin-stays a.ended a.code a.bytes.now a.out.now a.at (omega arith) _ _ (rw c.in-Err-More.field-0-is at c.in-Err-More.ensures) c.wait_or_refuse.ensures

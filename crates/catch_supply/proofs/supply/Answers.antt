@@ -11,31 +11,31 @@ use Rattle.catch_supply.proofs.supply.Goals as goal
 pub overflow_add-middle : goal.overflow_add-middle
 overflow_add-middle c =
     let a = c.args in
-    let l = target_there a.held a.identifiers.now a.identifier_ends.now a.bases.now a.base_ends.now a.marks.now c.requires.0 a.bytes.now _ c.read_target.ensures _ c.in-Read.is in
+    let l = target_there a.held a.identifiers.now a.identifier_ends.now a.bases.now a.base_ends.now a.marks.now c.requires.0 a.bytes.now c.in-Ok.head c.in-Ok.ensures in
     omega (arith, l)
 
 pub overflow_add-end : goal.overflow_add-end
 overflow_add-end c =
     let a = c.args in
-    let l = target_there a.held a.identifiers.now a.identifier_ends.now a.bases.now a.base_ends.now a.marks.now c.requires.0 a.bytes.now _ c.read_target.ensures _ c.in-Read.is in
+    let l = target_there a.held a.identifiers.now a.identifier_ends.now a.bases.now a.base_ends.now a.marks.now c.requires.0 a.bytes.now c.in-Ok.head c.in-Ok.ensures in
     omega (arith, l)
 
 pub slice_bounds-store_target-end : goal.slice_bounds-store_target-end
 slice_bounds-store_target-end c =
     let a = c.args in
-    let l = target_there a.held a.identifiers.now a.identifier_ends.now a.bases.now a.base_ends.now a.marks.now c.requires.0 a.bytes.now _ c.read_target.ensures _ c.in-Read.is in
+    let l = target_there a.held a.identifiers.now a.identifier_ends.now a.bases.now a.base_ends.now a.marks.now c.requires.0 a.bytes.now c.in-Ok.head c.in-Ok.ensures in
     omega (arith, l)
 
-pub slice_bounds-store_target-end-in-Read : goal.slice_bounds-store_target-end-in-Read
-slice_bounds-store_target-end-in-Read c =
+pub slice_bounds-store_target-end-in-Ok : goal.slice_bounds-store_target-end-in-Ok
+slice_bounds-store_target-end-in-Ok c =
     let a = c.args in
-    let l = target_there a.held a.identifiers.now a.identifier_ends.now a.bases.now a.base_ends.now a.marks.now c.requires.0 a.bytes.now _ c.read_target.ensures _ c.in-Read.is in
+    let l = target_there a.held a.identifiers.now a.identifier_ends.now a.bases.now a.base_ends.now a.marks.now c.requires.0 a.bytes.now c.in-Ok.head c.in-Ok.ensures in
     omega (arith, l)
 
 pub store_target-supply-requires : goal.store_target-supply-requires
 store_target-supply-requires c =
     let a = c.args in
-    let w = target_fitting a.held a.identifiers.now a.identifier_ends.now a.bases.now a.base_ends.now a.marks.now c.requires.0 a.bytes.now _ c.read_target.ensures _ c.in-Read.is in
+    let w = target_fitting a.held a.identifiers.now a.identifier_ends.now a.bases.now a.base_ends.now a.marks.now c.requires.0 a.bytes.now c.in-Ok.head c.in-Ok.ensures in
     let k = c.requires.0 in
     record {
       identifiers = simp length-take (omega (arith, k.names, k.identifiers, w.one, w.identifier));
@@ -48,28 +48,28 @@ store_target-supply-requires c =
 pub overflow_add-result : goal.overflow_add-result
 overflow_add-result c =
     let a = c.args in
-    let l = target_there a.held a.identifiers.now a.identifier_ends.now a.bases.now a.base_ends.now a.marks.now c.requires.0 a.bytes.now _ c.read_target.ensures _ c.in-Read.is in
+    let l = target_there a.held a.identifiers.now a.identifier_ends.now a.bases.now a.base_ends.now a.marks.now c.requires.0 a.bytes.now c.in-Ok.head c.in-Ok.ensures in
     omega (arith, l)
 
-pub returns-in-Wrong : goal.returns-in-Wrong
-returns-in-Wrong c =
-    let a = c.args in record { supply_told = supply-refuses a.held a.identifiers.now a.identifier_ends.now a.bases.now a.base_ends.now a.marks.now c.requires.0 a.bytes.now _ c.read_target.ensures a.ended a.out.now a.at _ _ c.in-Wrong.is c.refuse.ensures; supply_kept = c.requires.0 }
+pub returns-in-Err-Wrong : goal.returns-in-Err-Wrong
+returns-in-Err-Wrong c =
+    let a = c.args in record { supply_told = supply-refuses a.held a.identifiers.now a.identifier_ends.now a.bases.now a.base_ends.now a.marks.now c.requires.0 a.bytes.now a.ended a.out.now a.at _ _ (rw c.in-Err-Wrong.field-0-is at c.in-Err-Wrong.ensures) c.refuse.ensures; supply_kept = c.requires.0 }
 
-pub returns-in-More : goal.returns-in-More
-returns-in-More c =
-    let a = c.args in record { supply_told = supply-stays a.held a.identifiers.now a.identifier_ends.now a.bases.now a.base_ends.now a.marks.now c.requires.0 a.bytes.now _ c.read_target.ensures a.ended a.out.now a.at _ _ c.in-More.is c.wait_or_refuse.ensures; supply_kept = c.requires.0 }
+pub returns-in-Err-More : goal.returns-in-Err-More
+returns-in-Err-More c =
+    let a = c.args in record { supply_told = supply-stays a.held a.identifiers.now a.identifier_ends.now a.bases.now a.base_ends.now a.marks.now c.requires.0 a.bytes.now a.ended a.out.now a.at _ _ (rw c.in-Err-More.field-0-is at c.in-Err-More.ensures) c.wait_or_refuse.ensures; supply_kept = c.requires.0 }
 
-pub returns-in-Read : goal.returns-in-Read
-returns-in-Read c =
+pub returns-in-Ok : goal.returns-in-Ok
+returns-in-Ok c =
     let a = c.args in
-    let n = c.in-Read.head.name in
-    let m = c.in-Read.head.count in
+    let n = c.in-Ok.head.name in
+    let m = c.in-Ok.head.count in
     let k = c.store_target-supply in
-    let l = target_there a.held a.identifiers.now a.identifier_ends.now a.bases.now a.base_ends.now a.marks.now c.requires.0 a.bytes.now _ c.read_target.ensures _ c.in-Read.is in record {
+    let l = target_there a.held a.identifiers.now a.identifier_ends.now a.bases.now a.base_ends.now a.marks.now c.requires.0 a.bytes.now c.in-Ok.head c.in-Ok.ensures in record {
       supply_told = λ t. record {
         text = [];
         adds = nothing_added a.out.now a.at;
-        told = supply-went a.held a.identifiers.now a.identifier_ends.now a.bases.now a.base_ends.now a.marks.now c.requires.0 a.bytes.now _ c.read_target.ensures _ c.in-Read.is (6 + n - 6) (6 + n + m - (6 + n)) (supplied_in k.result k.new.identifiers k.new.identifier_ends k.new.bases k.new.base_ends k.new.marks) k.ensures.marks_value (omega arith) (omega arith) (1 + (6 + n + m)) (omega arith) t;
+        told = supply-went a.held a.identifiers.now a.identifier_ends.now a.bases.now a.base_ends.now a.marks.now c.requires.0 a.bytes.now c.in-Ok.head c.in-Ok.ensures (6 + n - 6) (6 + n + m - (6 + n)) (supplied_in k.result k.new.identifiers k.new.identifier_ends k.new.bases k.new.base_ends k.new.marks) k.ensures.marks_value (omega arith) (omega arith) (1 + (6 + n + m)) (omega arith) t;
       };
-      supply_kept = kept_more a.held a.identifiers.now a.identifier_ends.now a.bases.now a.base_ends.now a.marks.now c.requires.0 a.bytes.now _ c.read_target.ensures _ c.in-Read.is k.result k.new.identifiers k.new.identifier_ends k.new.bases k.new.base_ends k.new.marks (6 + n - 6) (6 + n + m - (6 + n)) _ _ (omega arith) (omega arith) k.ensures.value k.auto.identifiers k.auto.identifier_ends k.auto.bases k.auto.base_ends k.auto.marks;
+      supply_kept = kept_more a.held a.identifiers.now a.identifier_ends.now a.bases.now a.base_ends.now a.marks.now c.requires.0 a.bytes.now c.in-Ok.head c.in-Ok.ensures k.result k.new.identifiers k.new.identifier_ends k.new.bases k.new.base_ends k.new.marks (6 + n - 6) (6 + n + m - (6 + n)) _ _ (omega arith) (omega arith) k.ensures.value k.auto.identifiers k.auto.identifier_ends k.auto.bases k.auto.base_ends k.auto.marks;
     }

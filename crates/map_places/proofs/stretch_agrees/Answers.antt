@@ -1,21 +1,11 @@
-use mathlib.Core.Path.{◌≡◌, sym, ap, ap₂, ◌∙◌}
+use mathlib.Core.Path.{sym, ap₂, ◌∙◌}
 use mathlib.Core.Bool.{◌&&◌}
 use native.Mathlib.Omega.{arith}
 use Rattle.lists.proofs.Every.{every_at}
 use Rattle.bases.specs.Base.{is_capital}
 use Rattle.bases.proofs.Bytes.{letter_capital}
-use Rattle.map_places.specs.Place.{stands_to}
 use Rattle.map_places.proofs.Comparing.{compared_next}
 use Rattle.map_places.proofs.stretch_agrees.Goals as goal
-
-pub loop-i-init : goal.loop-i-init
-loop-i-init c = (c.requires.from_le_end.0, sym c.requires.from_le_end.1.1)
-
-pub overflow_add-start : goal.overflow_add-start
-overflow_add-start c = omega (arith, c.loop-i-test.true, c.requires.laid.fits, c.requires.from_le_end.1.0)
-
-pub bounds-sequence-start : goal.bounds-sequence-start
-bounds-sequence-start c = omega (arith, c.loop-i-test.true, c.requires.laid.fits, c.requires.from_le_end.1.0)
 
 pub oriented_agrees-agree-requires : goal.oriented_agrees-agree-requires
 oriented_agrees-agree-requires c =
@@ -28,10 +18,4 @@ oriented_agrees-agree-requires c =
 pub loop-i-preserved : goal.loop-i-preserved
 loop-i-preserved c =
     let a = c.args in let l = c.loop-i in
-    (omega (arith, c.loop-i-test.true), ap₂ (λ x y. x && y) l.invariant.1 c.oriented_agrees-agree.ensures ∙ sym (compared_next a.sequence.now a.start a.read.now a.strand c.requires.laid l.i (omega (arith, c.loop-i-test.true, c.requires.from_le_end.1.0))))
-
-pub returns : goal.returns
-returns c =
-    let a = c.args in let l = c.loop-i in
-    let e : l.i ≡ a.end = omega (arith, l.invariant.0, c.loop-i-test.false) in
-    l.invariant.1 ∙ ap (λ n. stands_to n a.sequence.now a.start a.read.now a.strand) e
+    ap₂ (λ x y. x && y) l.invariant c.oriented_agrees-agree.ensures ∙ sym (compared_next a.sequence.now a.start a.read.now a.strand c.requires.laid l.i (omega (arith, c.loop-i-test.true, c.requires.from_le_end.1.0)))

@@ -1,11 +1,7 @@
 -- `map_places::stretch_agrees` meets its contract. The invariant: agree says whether the bases before i do.
 use mathlib.Core.Path.{◌≡◌}
-use Prim.Native.Nat.{◌-◌, ◌≤◌}
 use Rattle.map_places.specs.Place.{stands_to}
 use Rattle.map_places.proofs.stretch_agrees.Given as goal
 
 abbrev pub invariant-loop-i : goal.invariant-loop-i
-invariant-loop-i l = (l.i ≤ l.end) × (l.agree ≡ stands_to l.i l.sequence l.start l.read l.strand)
-
-abbrev pub decreases-loop-i : goal.decreases-loop-i
-decreases-loop-i l = l.end - l.i
+invariant-loop-i l = l.agree ≡ stands_to l.i l.sequence l.start l.read l.strand

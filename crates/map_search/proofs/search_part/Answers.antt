@@ -9,4 +9,4 @@ use Rattle.map_search.proofs.search_part.Goals as goal
 pub returns : goal.returns
 returns c =
     let a = c.args in
-    part_searched (by_index a.q) (ranked_sequences a.bases.now a.ends.now a.ranked.now) a.ranked.now a.read.now a.limit a.from a.width _ a.entries.now c.requires.width_in_bounds (a.from + a.width - a.from) (omega arith) _ c.search.ensures
+    part_searched (by_index a.q) (ranked_sequences a.targets.bases.now a.targets.ends.now a.targets.ranked.now) a.targets.ranked.now a.read.now a.limit a.from a.width _ a.entries.now c.requires.width_in_bounds (a.from + a.width - a.from) (omega arith) _ c.search.ensures

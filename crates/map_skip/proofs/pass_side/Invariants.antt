@@ -6,7 +6,7 @@ use Rattle.map_skip.proofs.pass_side.Given as goal
 
 abbrev pub invariant-loop-start : goal.invariant-loop-start
 invariant-loop-start l =
-    Passing (ranked_sequences l.bases l.ends l.ranked) l.read l.ranks l.positions l.first l.limit l.start l.i l.count
+    Passing (ranked_sequences l.targets.bases.now l.targets.ends.now l.targets.ranked.now) l.read l.ranks l.positions l.first l.limit l.start l.i l.count
 
 abbrev pub decreases-loop-start : goal.decreases-loop-start
 decreases-loop-start l = l.first.cursor.end - l.i

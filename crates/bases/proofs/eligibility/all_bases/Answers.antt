@@ -1,21 +1,17 @@
-use mathlib.Core.Path.{refl, sym, ap, ◌∙◌}
-use native.Mathlib.Omega.{arith}
-use lib.ListN.{drop_of_length-le}
+-- `bases::eligibility::all_bases` meets its contract: bases are letters where no byte has the mark.
+use Rattle.std.proofs.Common.{◌≡◌, ◌∙◌, refl, sym, ap₂, Bool, not, ◌&&◌, List, [], ◌∷◌, ℕ, eqb, rules}
+use Rattle.std.specs.List.{list_all}
+use Rattle.std.proofs.lemmas.Iterator.{YieldsList-from_slice}
+use Rattle.std.proofs.lemmas.Iterator.Search.{all_from_yields_List}
+use borrow.Author.Tests.{tests}
+use Rattle.bases.specs.Base.{code_of, mark}
 use Rattle.bases.specs.Read.{letters}
-use Rattle.bases.proofs.Verdicts.{no_letter, a_letter}
+use Rattle.bases.proofs.Bytes.{letter_code}
 use Rattle.bases.proofs.eligibility.all_bases.Goals as goal
 
-pub loop-i-init : goal.loop-i-init
-loop-i-init c = (omega arith, refl)
-
-pub code_in-requires : goal.code_in-requires
-code_in-requires c = c.table-table.ensures
-
-pub returns-then-code_in-eq-MARK : goal.returns-then-code_in-eq-MARK
-returns-then-code_in-eq-MARK c = sym (c.loop-i.invariant.1 ∙ no_letter _ _ c.loop-i-test.true (sym c.code_in.ensures ∙ c.if-code_in-eq-MARK.true))
-
-pub loop-i-preserved : goal.loop-i-preserved
-loop-i-preserved c = (omega arith, c.loop-i.invariant.1 ∙ a_letter _ _ c.loop-i-test.true (λ e. c.if-code_in-eq-MARK.false (c.code_in.ensures ∙ e)))
+none_marked : (bs : List ℕ) → list_all (λ b. not (eqb (code_of b) mark)) bs ≡ letters bs
+none_marked [] = refl
+none_marked (b ∷ bs) = ap₂ {C = Bool} (λ x y. x && y) (sym (letter_code b)) (none_marked bs)
 
 pub returns : goal.returns
-returns c = sym (c.loop-i.invariant.1 ∙ ap letters (drop_of_length-le _ c.loop-i-test.false))
+returns c = all_from_yields_List _ _ _ _ c.all.ensures.ran (YieldsList-from_slice c.args.bases.now cc) (λ x b q k. search (rules, tests)) ∙ none_marked _

@@ -10,4 +10,4 @@ pub sheet_of-finished-requires : goal.sheet_of-finished-requires
 sheet_of-finished-requires c = sym c.is_sheet.ensures ∙ c.if-not-is_sheet.false
 
 pub returns : goal.returns
-returns c = apply_told _ _ _ c.args.sheet.now c.args.rows.now (sym c.is_sheet.ensures ∙ c.if-not-is_sheet.false) _ c.sheet_of-finished.ensures c.apply_to_unitigs-answer.result _ c.apply_to_unitigs-answer.ensures _ c.number_of.ensures
+returns c = apply_told _ _ _ c.args.sheet.now c.args.rows.now (sym c.is_sheet.ensures ∙ c.if-not-is_sheet.false) _ c.sheet_of-finished.ensures c.apply_to_unitigs.result _ c.apply_to_unitigs.ensures _ c.number_of.ensures

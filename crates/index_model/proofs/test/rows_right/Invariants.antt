@@ -6,7 +6,7 @@ use Rattle.index_model.proofs.Testing.{RowsTo}
 use Rattle.index_model.proofs.test.rows_right.Given as goal
 
 abbrev pub invariant-loop-from : goal.invariant-loop-from
-invariant-loop-from l = RowsTo l.q (ranked_sequences l.bases l.ends l.ranked) l.keys l.ranks l.positions l.from
+invariant-loop-from l = RowsTo l.q (ranked_sequences l.targets.bases.now l.targets.ends.now l.targets.ranked.now) l.index.keys.now l.index.ranks.now l.index.positions.now l.from
 
 abbrev pub decreases-loop-from : goal.decreases-loop-from
-decreases-loop-from l = length l.keys - l.from
+decreases-loop-from l = length l.index.keys.now - l.from

@@ -1,10 +1,7 @@
 -- `index_seeds::fours::key_of_fours` meets its contract. The invariant: the key of the first k times four bases.
-use Prim.Native.Nat.{◌-◌, ◌*◌, ◌≤◌}
+use Prim.Native.Nat.{◌*◌}
 use Rattle.index_seeds.specs.Key.{KeyBegun}
 use Rattle.index_seeds.proofs.fours.key_of_fours.Given as goal
 
 abbrev pub invariant-loop-k : goal.invariant-loop-k
-invariant-loop-k l = (l.k ≤ l.fours) × KeyBegun l.sequence l.q l.start (4 * l.k) l.key
-
-abbrev pub decreases-loop-k : goal.decreases-loop-k
-decreases-loop-k l = l.fours - l.k
+invariant-loop-k l = KeyBegun l.sequence l.q l.start (4 * l.k) l.key

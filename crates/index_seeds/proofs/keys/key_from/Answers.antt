@@ -1,15 +1,6 @@
 use native.Mathlib.Omega.{arith}
-use Rattle.index_seeds.proofs.Keying.{seed_end, digits_next, digits_end}
+use Rattle.index_seeds.proofs.Keying.{digits_next}
 use Rattle.index_seeds.proofs.keys.key_from.Goals as goal
-
-pub loop-i-init : goal.loop-i-init
-loop-i-init c = c.requires.key_begun
-
-pub overflow_add-start : goal.overflow_add-start
-overflow_add-start c = omega (arith, seed_end _ _ _ c.requires.seed_in)
-
-pub oriented_code-code-requires : goal.oriented_code-code-requires
-oriented_code-code-requires c = c.requires.table
 
 pub overflow_mul-key : goal.overflow_mul-key
 overflow_mul-key c =
@@ -25,7 +16,3 @@ pub loop-i-preserved : goal.loop-i-preserved
 loop-i-preserved c =
     let d = digits_next c.args.strand c.args.sequence.now c.args.start c.args.q _ _ c.requires.seed_in c.loop-i.invariant c.loop-i-test.true _ c.oriented_code-code.ensures in
     record { inside = omega (arith, d.next.inside); digits = omega (arith, d.next.digits) }
-
-pub returns : goal.returns
-returns c =
-    digits_end c.args.strand c.args.sequence.now c.args.start c.args.q _ _ c.requires.seed_in c.loop-i.invariant c.loop-i-test.false

@@ -7,7 +7,7 @@ use Rattle.indexed_mapper.proofs.map.map_ranked.Goals as goal
 pub returns-then-not-is_index : goal.returns-then-not-is_index
 returns-then-not-is_index c =
     let a = c.args in
-    index_refused a.q (ranked_sequences a.bases.now a.ends.now a.ranked.now) a.ranked.now a.read.now a.limit a.entries.now a.keys.now a.ranks.now a.positions.now (sym c.is_index.ensures ∙ c.if-not-is_index.true)
+    index_refused a.q (ranked_sequences a.targets.bases.now a.targets.ends.now a.targets.ranked.now) a.targets.ranked.now a.read.now a.limit a.entries.now a.index.keys.now a.index.ranks.now a.index.positions.now (sym c.is_index.ensures ∙ c.if-not-is_index.true)
 
 pub map_read-requires : goal.map_read-requires
 map_read-requires c =
@@ -17,4 +17,4 @@ map_read-requires c =
 pub returns : goal.returns
 returns c =
     let a = c.args in
-    index_right_lem a.q (ranked_sequences a.bases.now a.ends.now a.ranked.now) a.ranked.now a.read.now a.limit a.entries.now a.keys.now a.ranks.now a.positions.now (sym c.is_index.ensures ∙ c.if-not-is_index.false) _ _ c.map_read.ensures
+    index_right_lem a.q (ranked_sequences a.targets.bases.now a.targets.ends.now a.targets.ranked.now) a.targets.ranked.now a.read.now a.limit a.entries.now a.index.keys.now a.index.ranks.now a.index.positions.now (sym c.is_index.ensures ∙ c.if-not-is_index.false) _ _ c.map_read.ensures

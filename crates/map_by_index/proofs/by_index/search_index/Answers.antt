@@ -1,18 +1,10 @@
 use mathlib.Core.Path.{refl, sym, ◌∙◌}
 use native.Mathlib.Omega.{arith}
 use Rattle.index_model.specs.Index.{ranked_sequences}
-use Rattle.map_by_index.proofs.Merging.{both_start, both_fits, both_going, both_more, both_fewer, both_counted, both_length, both_passed, both_few}
+use Rattle.map_by_index.proofs.Merging.{both_start, both_fits, both_going, both_more, both_fewer, both_counted, both_passed, both_few}
 use Rattle.map_by_index.proofs.Finding.{found_all, found_stopped}
-use Rattle.map_by_index.proofs.Readying.{ready_choice, ready_cursor, ready_chosen, ready_spans, ready_cursors}
+use Rattle.map_by_index.proofs.Readying.{ready_cursor, ready_chosen, ready_spans, ready_cursors}
 use Rattle.map_by_index.proofs.by_index.search_index.Goals as goal
-
-pub rarest_seed-plus-requires : goal.rarest_seed-plus-requires
-rarest_seed-plus-requires c =
-    ready_choice _ _ _ _ _ _ _ _ c.requires.index_searchable c.requires.q_in_bounds.0
-
-pub rarest_seed-minus-requires : goal.rarest_seed-minus-requires
-rarest_seed-minus-requires c =
-    ready_choice _ _ _ _ _ _ _ _ c.requires.index_searchable c.requires.q_in_bounds.0
 
 pub first_candidates-sides-requires : goal.first_candidates-sides-requires
 first_candidates-sides-requires c =
@@ -27,23 +19,24 @@ loop-plus_first-init c =
     let a = c.args in
     let p = c.rarest_seed-plus.ensures in
     let m = c.rarest_seed-minus.ensures in
-    let ss = ranked_sequences a.bases.now a.ends.now a.ranked.now in
+    let ss = ranked_sequences a.targets.bases.now a.targets.ends.now a.targets.ranked.now in
     let ch = ready_chosen _ _ _ _ _ _ _ _ c.requires.index_searchable c.requires.q_in_bounds.0 _ _ p m _ _ c.requires.q_in_bounds.1 in
     let f = c.cursor_over-forward.ensures in
     let g = c.cursor_over-backward.ensures in
-    both_start _ ss a.ranked.now _ _ _ _ _ _ _ _ ch _ _ _ f g c.first_candidates-sides.ensures
+    both_start _ ss a.targets.ranked.now _ _ _ _ _ _ _ _ ch _ _ _ f g c.first_candidates-sides.ensures
 
-pub visit-tally-requires : goal.visit-tally-requires
-visit-tally-requires c =
+pub visit-tally-requires-clause-fits_at : goal.visit-tally-requires-clause-fits_at
+visit-tally-requires-clause-fits_at c =
     let a = c.args in
     let p = c.rarest_seed-plus.ensures in
     let m = c.rarest_seed-minus.ensures in
-    let ss = ranked_sequences a.bases.now a.ends.now a.ranked.now in
+    let ss = ranked_sequences a.targets.bases.now a.targets.ends.now a.targets.ranked.now in
     let ch = ready_chosen _ _ _ _ _ _ _ _ c.requires.index_searchable c.requires.q_in_bounds.0 _ _ p m _ _ c.requires.q_in_bounds.1 in
     let at = c.loop-plus_first.invariant in
     let first = c.plus_first-plus_first.ensures in
     let waits = sym c.waits.ensures ∙ c.loop-plus_first-test.true in
-    let next = c.side-next.ensures in record { searchable = c.requires.index_searchable.searchable; fits_at = (both_fits _ ss a.ranked.now _ _ _ _ _ _ _ _ ch _ _ _ _ at _ first waits _ next, both_going _ ss a.ranked.now _ _ _ _ _ _ _ _ ch _ _ _ _ at _ first waits _ next) }
+    let next = c.side-next.ensures in
+    (both_fits _ ss a.targets.ranked.now _ _ _ _ _ _ _ _ ch _ _ _ _ at _ first waits _ next, both_going _ ss a.targets.ranked.now _ _ _ _ _ _ _ _ ch _ _ _ _ at _ first waits _ next)
 
 pub index_work-requires : goal.index_work-requires
 index_work-requires c =
@@ -52,28 +45,18 @@ index_work-requires c =
     let m = c.rarest_seed-minus.ensures in
     ready_spans _ _ _ _ _ _ _ _ c.requires.index_searchable c.requires.q_in_bounds.0 _ _ p m a.bound a.entries.now _ _ _ _ c.loop-plus_first.invariant
 
-pub shape_of-entries-then-bound-tally : goal.shape_of-entries-then-bound-tally
-shape_of-entries-then-bound-tally c =
-    let a = c.args in
-    let p = c.rarest_seed-plus.ensures in
-    let m = c.rarest_seed-minus.ensures in
-    let ss = ranked_sequences a.bases.now a.ends.now a.ranked.now in
-    let ch = ready_chosen _ _ _ _ _ _ _ _ c.requires.index_searchable c.requires.q_in_bounds.0 _ _ p m _ _ c.requires.q_in_bounds.1 in
-    let at = c.loop-plus_first.invariant in
-    omega (arith, both_length _ ss a.ranked.now _ _ _ _ _ _ _ _ ch _ _ _ _ at, c.visit-tally.auto)
-
 pub returns-then-bound-tally : goal.returns-then-bound-tally
 returns-then-bound-tally c =
     let a = c.args in
     let p = c.rarest_seed-plus.ensures in
     let m = c.rarest_seed-minus.ensures in
-    let ss = ranked_sequences a.bases.now a.ends.now a.ranked.now in
+    let ss = ranked_sequences a.targets.bases.now a.targets.ends.now a.targets.ranked.now in
     let ch = ready_chosen _ _ _ _ _ _ _ _ c.requires.index_searchable c.requires.q_in_bounds.0 _ _ p m _ _ c.requires.q_in_bounds.1 in
     let at = c.loop-plus_first.invariant in
     let first = c.plus_first-plus_first.ensures in
     let waits = sym c.waits.ensures ∙ c.loop-plus_first-test.true in
     let next = c.side-next.ensures in
-    found_stopped _ ss a.ranked.now _ _ _ _ _ _ _ _ ch _ _ _ _ at _ first waits _ next _ _ _ c.visit-tally.ensures (omega (arith, c.if-bound-tally.true)) _ c.index_work.ensures
+    found_stopped _ ss a.targets.ranked.now _ _ _ _ _ _ _ _ ch _ _ _ _ at _ first waits _ next _ _ _ c.visit-tally.ensures (omega (arith, c.if-bound-tally.true)) _ c.index_work.ensures
 
 pub moved-sides-requires : goal.moved-sides-requires
 moved-sides-requires c =
@@ -82,24 +65,22 @@ moved-sides-requires c =
     let m = c.rarest_seed-minus.ensures in
     (c.requires.index_searchable.searchable.lent, ready_cursors _ _ _ _ _ _ _ _ c.requires.index_searchable c.requires.q_in_bounds.0 _ _ p m a.bound a.entries.now _ _ _ _ c.loop-plus_first.invariant)
 
-pub pass-passed-requires : goal.pass-passed-requires
-pass-passed-requires c =
+pub pass-passed-requires-clause-sides_lent : goal.pass-passed-requires-clause-sides_lent
+pass-passed-requires-clause-sides_lent c =
     let a = c.args in
     let p = c.rarest_seed-plus.ensures in
     let m = c.rarest_seed-minus.ensures in
-    let ss = ranked_sequences a.bases.now a.ends.now a.ranked.now in
+    let ss = ranked_sequences a.targets.bases.now a.targets.ends.now a.targets.ranked.now in
     let ch = ready_chosen _ _ _ _ _ _ _ _ c.requires.index_searchable c.requires.q_in_bounds.0 _ _ p m _ _ c.requires.q_in_bounds.1 in
     let at = c.loop-plus_first.invariant in
     let first = c.plus_first-plus_first.ensures in
     let waits = sym c.waits.ensures ∙ c.loop-plus_first-test.true in
     let next = c.side-next.ensures in
-    let on = both_more _ ss a.ranked.now _ _ _ _ _ _ _ _ ch _ _ _ _ at _ first waits _ next _ _ _ c.visit-tally.ensures (omega (arith, c.if-bound-tally.false)) _ c.moved-sides.ensures in record {
-      searchable = c.requires.index_searchable.searchable;
-      sides_lent = record {
-        inside = both_fits _ ss a.ranked.now _ _ _ _ _ _ _ _ ch _ _ _ _ at _ first waits _ next;
-        first_inside = λ w. both_fits _ ss a.ranked.now _ _ _ _ _ _ _ _ ch _ _ _ _ on _ refl w _ refl;
-        cursors_in = ready_cursors _ _ _ _ _ _ _ _ c.requires.index_searchable c.requires.q_in_bounds.0 _ _ p m a.bound a.entries.now _ _ _ _ on;
-      };
+    let on = both_more _ ss a.targets.ranked.now _ _ _ _ _ _ _ _ ch _ _ _ _ at _ first waits _ next _ _ _ c.visit-tally.ensures (omega (arith, c.if-bound-tally.false)) _ c.moved-sides.ensures in
+    record {
+      inside = both_fits _ ss a.targets.ranked.now _ _ _ _ _ _ _ _ ch _ _ _ _ at _ first waits _ next;
+      first_inside = λ w. both_fits _ ss a.targets.ranked.now _ _ _ _ _ _ _ _ ch _ _ _ _ on _ refl w _ refl;
+      cursors_in = ready_cursors _ _ _ _ _ _ _ _ c.requires.index_searchable c.requires.q_in_bounds.0 _ _ p m a.bound a.entries.now _ _ _ _ on;
     }
 
 pub counted-tally-requires : goal.counted-tally-requires
@@ -107,43 +88,43 @@ counted-tally-requires c =
     let a = c.args in
     let p = c.rarest_seed-plus.ensures in
     let m = c.rarest_seed-minus.ensures in
-    let ss = ranked_sequences a.bases.now a.ends.now a.ranked.now in
+    let ss = ranked_sequences a.targets.bases.now a.targets.ends.now a.targets.ranked.now in
     let ch = ready_chosen _ _ _ _ _ _ _ _ c.requires.index_searchable c.requires.q_in_bounds.0 _ _ p m _ _ c.requires.q_in_bounds.1 in
     let at = c.loop-plus_first.invariant in
     let first = c.plus_first-plus_first.ensures in
     let waits = sym c.waits.ensures ∙ c.loop-plus_first-test.true in
     let next = c.side-next.ensures in
-    let on = both_more _ ss a.ranked.now _ _ _ _ _ _ _ _ ch _ _ _ _ at _ first waits _ next _ _ _ c.visit-tally.ensures (omega (arith, c.if-bound-tally.false)) _ c.moved-sides.ensures in
-    omega (arith, both_few _ ss a.ranked.now _ _ _ _ _ _ _ _ ch _ _ _ _ (both_passed _ ss a.ranked.now _ _ _ _ _ _ _ _ ch c.pass-passed.result.count _ _ _ _ _ on c.pass-passed.ensures))
+    let on = both_more _ ss a.targets.ranked.now _ _ _ _ _ _ _ _ ch _ _ _ _ at _ first waits _ next _ _ _ c.visit-tally.ensures (omega (arith, c.if-bound-tally.false)) _ c.moved-sides.ensures in
+    omega (arith, both_few _ ss a.targets.ranked.now _ _ _ _ _ _ _ _ ch _ _ _ _ (both_passed _ ss a.targets.ranked.now _ _ _ _ _ _ _ _ ch c.pass-passed.result.count _ _ _ _ _ on c.pass-passed.ensures))
 
 pub loop-plus_first-smaller : goal.loop-plus_first-smaller
 loop-plus_first-smaller c =
     let a = c.args in
     let p = c.rarest_seed-plus.ensures in
     let m = c.rarest_seed-minus.ensures in
-    let ss = ranked_sequences a.bases.now a.ends.now a.ranked.now in
+    let ss = ranked_sequences a.targets.bases.now a.targets.ends.now a.targets.ranked.now in
     let ch = ready_chosen _ _ _ _ _ _ _ _ c.requires.index_searchable c.requires.q_in_bounds.0 _ _ p m _ _ c.requires.q_in_bounds.1 in
     let at = c.loop-plus_first.invariant in
     let first = c.plus_first-plus_first.ensures in
     let waits = sym c.waits.ensures ∙ c.loop-plus_first-test.true in
     let next = c.side-next.ensures in
     let t = c.visit-tally.ensures in
-    omega (arith, both_fewer _ ss a.ranked.now _ _ _ _ _ _ _ _ ch _ _ _ _ at _ first waits _ next, both_counted _ ss a.ranked.now _ _ _ _ _ _ _ _ ch _ _ _ _ at _ first waits _ next _ _ _ t, c.counted-tally.ensures)
+    omega (arith, both_fewer _ ss a.targets.ranked.now _ _ _ _ _ _ _ _ ch _ _ _ _ at _ first waits _ next, both_counted _ ss a.targets.ranked.now _ _ _ _ _ _ _ _ ch _ _ _ _ at _ first waits _ next _ _ _ t, c.counted-tally.ensures)
 
 pub loop-plus_first-preserved : goal.loop-plus_first-preserved
 loop-plus_first-preserved c =
     let a = c.args in
     let p = c.rarest_seed-plus.ensures in
     let m = c.rarest_seed-minus.ensures in
-    let ss = ranked_sequences a.bases.now a.ends.now a.ranked.now in
+    let ss = ranked_sequences a.targets.bases.now a.targets.ends.now a.targets.ranked.now in
     let ch = ready_chosen _ _ _ _ _ _ _ _ c.requires.index_searchable c.requires.q_in_bounds.0 _ _ p m _ _ c.requires.q_in_bounds.1 in
     let at = c.loop-plus_first.invariant in
     let first = c.plus_first-plus_first.ensures in
     let waits = sym c.waits.ensures ∙ c.loop-plus_first-test.true in
     let next = c.side-next.ensures in
-    let on = both_more _ ss a.ranked.now _ _ _ _ _ _ _ _ ch _ _ _ _ at _ first waits _ next _ _ _ c.visit-tally.ensures (omega (arith, c.if-bound-tally.false)) _ c.moved-sides.ensures in
+    let on = both_more _ ss a.targets.ranked.now _ _ _ _ _ _ _ _ ch _ _ _ _ at _ first waits _ next _ _ _ c.visit-tally.ensures (omega (arith, c.if-bound-tally.false)) _ c.moved-sides.ensures in
     rw (c.counted-tally.ensures.0, c.counted-tally.ensures.1)
-    (both_passed _ ss a.ranked.now _ _ _ _ _ _ _ _ ch c.pass-passed.result.count _ _ _ _ _ on c.pass-passed.ensures)
+    (both_passed _ ss a.targets.ranked.now _ _ _ _ _ _ _ _ ch c.pass-passed.result.count _ _ _ _ _ on c.pass-passed.ensures)
 
 pub index_work-requires-2 : goal.index_work-requires-2
 index_work-requires-2 c =
@@ -152,20 +133,11 @@ index_work-requires-2 c =
     let m = c.rarest_seed-minus.ensures in
     ready_spans _ _ _ _ _ _ _ _ c.requires.index_searchable c.requires.q_in_bounds.0 _ _ p m a.bound a.entries.now _ _ _ _ c.loop-plus_first.invariant
 
-pub shape_of-entries : goal.shape_of-entries
-shape_of-entries c =
-    let a = c.args in
-    let p = c.rarest_seed-plus.ensures in
-    let m = c.rarest_seed-minus.ensures in
-    let ss = ranked_sequences a.bases.now a.ends.now a.ranked.now in
-    let ch = ready_chosen _ _ _ _ _ _ _ _ c.requires.index_searchable c.requires.q_in_bounds.0 _ _ p m _ _ c.requires.q_in_bounds.1 in
-    both_length _ ss a.ranked.now _ _ _ _ _ _ _ _ ch _ _ _ _ c.loop-plus_first.invariant
-
 pub returns : goal.returns
 returns c =
     let a = c.args in
     let p = c.rarest_seed-plus.ensures in
     let m = c.rarest_seed-minus.ensures in
-    let ss = ranked_sequences a.bases.now a.ends.now a.ranked.now in
+    let ss = ranked_sequences a.targets.bases.now a.targets.ends.now a.targets.ranked.now in
     let ch = ready_chosen _ _ _ _ _ _ _ _ c.requires.index_searchable c.requires.q_in_bounds.0 _ _ p m _ _ c.requires.q_in_bounds.1 in
-    found_all _ ss a.ranked.now _ _ _ _ _ _ _ _ ch _ _ _ _ c.loop-plus_first.invariant _ c.index_work-2.ensures (sym c.waits.ensures ∙ c.loop-plus_first-test.false)
+    found_all _ ss a.targets.ranked.now _ _ _ _ _ _ _ _ ch _ _ _ _ c.loop-plus_first.invariant _ c.index_work-2.ensures (sym c.waits.ensures ∙ c.loop-plus_first-test.false)

@@ -6,7 +6,7 @@ use Rattle.map_by_index.proofs.by_index.search_index.Given as goal
 
 abbrev pub invariant-loop-plus_first : goal.invariant-loop-plus_first
 invariant-loop-plus_first l =
-    Both l.q (ranked_sequences l.bases l.ends l.ranked) l.ranked l.read l.bound l.plus l.minus l.initial.entries l.sides l.tally.comparisons l.tally.seen l.entries
+    Both l.q (ranked_sequences l.targets.bases.now l.targets.ends.now l.targets.ranked.now) l.targets.ranked.now l.read l.bound l.plus l.minus l.initial.entries l.sides l.tally.comparisons l.tally.seen l.entries
 
 abbrev pub decreases-loop-plus_first : goal.decreases-loop-plus_first
 decreases-loop-plus_first l =

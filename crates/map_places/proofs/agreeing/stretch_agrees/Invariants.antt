@@ -1,12 +1,8 @@
 -- `map_places::agreeing::stretch_agrees` meets its contract. The invariant: agree says whether the first k bases do.
 use mathlib.Core.Path.{◌≡◌}
-use Prim.Native.Nat.{◌-◌, ◌≤◌}
 use Rattle.bases.specs.Read.{oriented}
-use Rattle.map_places.specs.Agreeing.{agreeing, stretch}
+use Rattle.map_places.specs.Agreeing.{agreeing}
 use Rattle.map_places.proofs.agreeing.stretch_agrees.Given as goal
 
 abbrev pub invariant-loop-k : goal.invariant-loop-k
-invariant-loop-k l = (l.k ≤ stretch) × (l.agree ≡ agreeing l.k l.sequence l.at (oriented l.strand l.read) l.from)
-
-abbrev pub decreases-loop-k : goal.decreases-loop-k
-decreases-loop-k l = stretch - l.k
+invariant-loop-k l = l.agree ≡ agreeing l.k l.sequence l.at (oriented l.strand l.read) l.from

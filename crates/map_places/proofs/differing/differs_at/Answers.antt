@@ -1,20 +1,13 @@
 -- `map_places::differing::differs_at` meets its contract: one base that differs is enough.
-use mathlib.Core.Path.{◌≡◌, refl, sym, ◌∙◌}
+use mathlib.Core.Path.{◌≡◌, sym, ◌∙◌}
 use Prim.Native.Nat.{◌+◌, ◌-◌}
 use native.Mathlib.Omega.{arith}
 use borrow.Author.Tests.{not-true}
-use Rattle.lists.proofs.Cases.{clash}
 use Rattle.lists.proofs.Every.{every_at}
 use Rattle.bases.specs.Base.{is_capital}
 use Rattle.bases.proofs.Bytes.{letter_capital}
 use Rattle.map_places.proofs.Comparing.{compared_differs}
 use Rattle.map_places.proofs.differing.differs_at.Goals as goal
-
-pub returns-then-place-start : goal.returns-then-place-start
-returns-then-place-start c = λ e. clash e refl
-
-pub returns-then-read-i : goal.returns-then-read-i
-returns-then-read-i c = λ e. clash e refl
 
 pub oriented_agrees-requires : goal.oriented_agrees-requires
 oriented_agrees-requires c =
