@@ -21,7 +21,13 @@ use Rattle.catch_sheet_lines.specs.Lent.{role_room, counts_room}
 
 module _ (sheet : Sheet) (role first : ℕ) (e : first ≡ 6 * role) where
   -- with remap on, states 1 to 5
-  pub states_told : sheet.remap ≡ true → {out out₁ out₂ out₃ out₄ out' : List ℕ} {at p₁ p₂ p₃ p₄ r : ℕ} → AddsAtMost line_room (count_line role 1 (get_or sheet.table (first + 1) 0)) out at out₁ p₁ → AddsAtMost line_room (count_line role 2 (get_or sheet.table (first + 2) 0)) out₁ p₁ out₂ p₂ → AddsAtMost line_room (count_line role 3 (get_or sheet.table (first + 3) 0)) out₂ p₂ out₃ p₃ → AddsAtMost line_room (count_line role 4 (get_or sheet.table (first + 4) 0)) out₃ p₃ out₄ p₄ → AddsAtMost line_room (count_line role 5 (get_or sheet.table (first + 5) 0)) out₄ p₄ out' r → AddsAtMost role_room (count_lines (role_shown sheet role)) out at out' r
+  pub states_told : sheet.remap ≡ true → {out out₁ out₂ out₃ out₄ out' : List ℕ} {at p₁ p₂ p₃ p₄ r : ℕ} →
+      AddsAtMost line_room (count_line role 1 (get_or sheet.table (first + 1) 0)) out at out₁ p₁ →
+      AddsAtMost line_room (count_line role 2 (get_or sheet.table (first + 2) 0)) out₁ p₁ out₂ p₂ →
+      AddsAtMost line_room (count_line role 3 (get_or sheet.table (first + 3) 0)) out₂ p₂ out₃ p₃ →
+      AddsAtMost line_room (count_line role 4 (get_or sheet.table (first + 4) 0)) out₃ p₃ out₄ p₄ →
+      AddsAtMost line_room (count_line role 5 (get_or sheet.table (first + 5) 0)) out₄ p₄ out' r →
+      AddsAtMost role_room (count_lines (role_shown sheet role)) out at out' r
   states_told on f g h i j =
       record { adds = rw (on, ← e) (adds_both f.adds (adds_both g.adds (adds_both h.adds (adds_both i.adds (adds_both j.adds (adds_none _ _)))))); room = omega arith }
 

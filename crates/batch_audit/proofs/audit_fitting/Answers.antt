@@ -11,7 +11,9 @@ use Rattle.batch_audit.proofs.audit_fitting.Goals as goal
 pub returns-then-not-lists_fit : goal.returns-then-not-lists_fit
 returns-then-not-lists_fit c =
     let a = c.args in
-    unfit a.offset (ranked_sequences a.targets.bases.now a.targets.ends.now a.targets.ranked.now) (way_if a.indexed a.q) a.targets.ranked.now (index_if a.indexed a.index.keys.now a.index.ranks.now a.index.positions.now) (held_of a.state a.placements.now a.singles.now a.multi.now) (fragment_lists a.ordinals.now a.counts.now (read_lists a.reads.roles.now a.reads.bases.now a.reads.base_ends.now a.reads.marks.now a.reads.qualities.now a.reads.quality_ends.now)) a.rows.now a.entries.now (sym c.lists_fit.ensures ∙ c.if-not-lists_fit.true)
+    let held = held_of a.state a.placements.now a.singles.now a.multi.now in
+    let fragments = fragment_lists a.ordinals.now a.counts.now (read_lists a.reads.roles.now a.reads.bases.now a.reads.base_ends.now a.reads.marks.now a.reads.qualities.now a.reads.quality_ends.now) in
+    unfit a.offset (ranked_sequences a.targets.bases.now a.targets.ends.now a.targets.ranked.now) (way_if a.indexed a.q) a.targets.ranked.now (index_if a.indexed a.index.keys.now a.index.ranks.now a.index.positions.now) held fragments a.rows.now a.entries.now (sym c.lists_fit.ensures ∙ c.if-not-lists_fit.true)
 
 pub overflow_mul-share : goal.overflow_mul-share
 overflow_mul-share c = omega (arith, c.share_of-share.ensures.2)
@@ -23,4 +25,6 @@ audit_list-after-requires c =
 pub returns : goal.returns
 returns c =
     let a = c.args in
-    fitting a.offset (ranked_sequences a.targets.bases.now a.targets.ends.now a.targets.ranked.now) (way_if a.indexed a.q) a.targets.ranked.now (index_if a.indexed a.index.keys.now a.index.ranks.now a.index.positions.now) (held_of a.state a.placements.now a.singles.now a.multi.now) (fragment_lists a.ordinals.now a.counts.now (read_lists a.reads.roles.now a.reads.bases.now a.reads.base_ends.now a.reads.marks.now a.reads.qualities.now a.reads.quality_ends.now)) a.rows.now a.entries.now (sym c.lists_fit.ensures ∙ c.if-not-lists_fit.false) c.share_of-share.result c.share_of-share.ensures.1 _ _ _ _ c.audit_list-after.ensures
+    let held = held_of a.state a.placements.now a.singles.now a.multi.now in
+    let fragments = fragment_lists a.ordinals.now a.counts.now (read_lists a.reads.roles.now a.reads.bases.now a.reads.base_ends.now a.reads.marks.now a.reads.qualities.now a.reads.quality_ends.now) in
+    fitting a.offset (ranked_sequences a.targets.bases.now a.targets.ends.now a.targets.ranked.now) (way_if a.indexed a.q) a.targets.ranked.now (index_if a.indexed a.index.keys.now a.index.ranks.now a.index.positions.now) held fragments a.rows.now a.entries.now (sym c.lists_fit.ensures ∙ c.if-not-lists_fit.false) c.share_of-share.result c.share_of-share.ensures.1 _ _ _ _ c.audit_list-after.ensures

@@ -22,4 +22,5 @@ put_state-requires c = (state_parts c.args.state.now (sym c.is_state.ensures ∙
 pub returns : goal.returns
 returns c =
     let a = c.args in
-    list_told (catalogue_in a.catalogue) (columns a.index.keys.now a.index.ranks.now a.index.positions.now) (counters_of a.placements.now a.singles.now a.multi.now) (fragment_lists a.ordinals.now a.counts.now (read_lists a.reads.roles.now a.reads.bases.now a.reads.base_ends.now a.reads.marks.now a.reads.qualities.now a.reads.quality_ends.now)) a.state.now a.rows.now a.entries.now (sym c.is_state.ensures ∙ c.if-not-is_state.false) _ c.state_of-held.ensures _ _ _ _ c.fragments-audit.ensures _ c.put_state.ensures _ c.number_of.ensures
+    let fragments = fragment_lists a.ordinals.now a.counts.now (read_lists a.reads.roles.now a.reads.bases.now a.reads.base_ends.now a.reads.marks.now a.reads.qualities.now a.reads.quality_ends.now) in
+    list_told (catalogue_in a.catalogue) (columns a.index.keys.now a.index.ranks.now a.index.positions.now) (counters_of a.placements.now a.singles.now a.multi.now) fragments a.state.now a.rows.now a.entries.now (sym c.is_state.ensures ∙ c.if-not-is_state.false) _ c.state_of-held.ensures _ _ _ _ c.fragments-audit.ensures _ c.put_state.ensures _ c.number_of.ensures

@@ -184,11 +184,16 @@ returns-in-Beginning c =
 pub returns-else-code-eq2 : goal.returns-else-code-eq2
 returns-else-code-eq2 c =
     let a = c.args in
+    let buffers = buffers_of a.identifiers.now a.identifier_ends.now a.bases.now a.base_ends.now a.marks.now a.ranked.now a.keys.now a.ranks.now a.positions.now a.placements.now a.singles.now a.multi.now in
     let kept = c.requires.0 in
-    opening_step a.job (buffers_of a.identifiers.now a.identifier_ends.now a.bases.now a.base_ends.now a.marks.now a.ranked.now a.keys.now a.ranks.now a.positions.now a.placements.now a.singles.now a.multi.now) kept a.ended a.out.now a.at _ c.in-Supplying.is a.bytes.now (omega (arith, c.if-bytes-eq0.false)) c.open-opened.result _ _ _ _ c.open-opened.ensures (omega (arith, c.open-opened.auto.ranked)) (omega (arith, c.open-opened.auto.keys)) (omega (arith, c.open-opened.auto.ranks)) (omega (arith, c.open-opened.auto.positions)) _ c.opened_job.ensures
+    opening_step a.job buffers kept a.ended a.out.now a.at _ c.in-Supplying.is a.bytes.now (omega (arith, c.if-bytes-eq0.false)) c.open-opened.result _ _ _ _ c.open-opened.ensures (omega (arith, c.open-opened.auto.ranked)) (omega (arith, c.open-opened.auto.keys)) (omega (arith, c.open-opened.auto.ranks)) (omega (arith, c.open-opened.auto.positions)) _ c.opened_job.ensures
 
 pub returns-in-Running : goal.returns-in-Running
 returns-in-Running c =
     let a = c.args in
+    let buffers = buffers_of a.identifiers.now a.identifier_ends.now a.bases.now a.base_ends.now a.marks.now a.ranked.now a.keys.now a.ranks.now a.positions.now a.placements.now a.singles.now a.multi.now in
     let kept = c.requires.0 in
-    run_step a.job (buffers_of a.identifiers.now a.identifier_ends.now a.bases.now a.base_ends.now a.marks.now a.ranked.now a.keys.now a.ranks.now a.positions.now a.placements.now a.singles.now a.multi.now) kept a.ended a.out.now a.at _ c.in-Running.is a.bytes.now (omega (arith, c.if-bytes-eq0.false)) _ _ _ _ c.run-step.ensures (omega (arith, kept.supply.targets, c.run-step.auto.placements, length-take-le a.job.supply.targets a.placements.now (omega (arith, kept.supply.targets, kept.placements)))) (omega (arith, kept.supply.targets, c.run-step.auto.singles, length-take-le a.job.supply.targets a.singles.now (omega (arith, kept.supply.targets, kept.singles)))) (omega (arith, kept.supply.targets, c.run-step.auto.multi, length-take-le a.job.supply.targets a.multi.now (omega (arith, kept.supply.targets, kept.multi))))
+    let placements = length-take-le a.job.supply.targets a.placements.now (omega (arith, kept.supply.targets, kept.placements)) in
+    let singles = length-take-le a.job.supply.targets a.singles.now (omega (arith, kept.supply.targets, kept.singles)) in
+    let multi = length-take-le a.job.supply.targets a.multi.now (omega (arith, kept.supply.targets, kept.multi)) in
+    run_step a.job buffers kept a.ended a.out.now a.at _ c.in-Running.is a.bytes.now (omega (arith, c.if-bytes-eq0.false)) _ _ _ _ c.run-step.ensures (omega (arith, kept.supply.targets, c.run-step.auto.placements, placements)) (omega (arith, kept.supply.targets, c.run-step.auto.singles, singles)) (omega (arith, kept.supply.targets, c.run-step.auto.multi, multi))
