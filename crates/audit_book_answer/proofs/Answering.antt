@@ -1,6 +1,5 @@
 -- The reads of an answer, case by case.
 use Rattle.std.specs.Prelude.{Result, Ok, Err, Option, Some}
-use Rattle.promises.specs.declared.refusal.Refusal.{Refusal}
 use mathlib.Core.Path.{◌≡◌, refl, sym, ap, ◌∙◌}
 use mathlib.Core.Bool.{true, false}
 use mathlib.Core.List.{List, [], ◌∷◌}
@@ -18,12 +17,12 @@ use Rattle.audit_model.specs.declared.calls.Mates.{Mates}
 use Rattle.audit_model.specs.Settings.{Held, held_books}
 use Rattle.audit_book_answer.specs.Answers.{tally_of, answer_reads, answer_booked, AnswerPostable, AnswerPosted, CountersReady, AnswerRaisable}
 
-module _ (answer : Result FragmentRows Refusal) (first second width : ℕ) (entries : List ℕ) where
+module _ {E : Type 0} (answer : Result FragmentRows E) (first second width : ℕ) (entries : List ℕ) where
   -- a refused one has no reads
-  pub refused_posted : (refusal : Refusal) → answer ≡ Err refusal → (books : Books) → AnswerPosted answer first second width entries books (Some books.ledger)
+  pub refused_posted : (refusal : E) → answer ≡ Err refusal → (books : Books) → AnswerPosted answer first second width entries books (Some books.ledger)
   refused_posted refusal e books = rw e
 
-  pub refused_raised : (refusal : Refusal) → answer ≡ Err refusal → (k : Counters) → k ≡ counters_posted (answer_reads answer first second width entries) k
+  pub refused_raised : (refusal : E) → answer ≡ Err refusal → (k : Counters) → k ≡ counters_posted (answer_reads answer first second width entries) k
   refused_raised refusal e k = rw e
 
   -- one read
@@ -63,7 +62,7 @@ posted_counters (x ∷ xs) books = posted_counters xs (posted_one x books)
 counters_small_lem : (books : Books) → books_small books ≡ true → counters_small books.counters ≡ true
 counters_small_lem books t = (and-true (ledger_small books.ledger) (counters_small books.counters) t).1
 
-module _ (answer : Result FragmentRows Refusal) (first second width : ℕ) (entries : List ℕ) (h : Held) (p : AnswerRaisable answer first second width entries h) where
+module _ {E : Type 0} (answer : Result FragmentRows E) (first second width : ℕ) (entries : List ℕ) (h : Held) (p : AnswerRaisable answer first second width entries h) where
   abbrev xs : List TalliedRead
   xs = answer_reads answer first second width entries
 
@@ -75,7 +74,7 @@ module _ (answer : Result FragmentRows Refusal) (first second width : ℕ) (entr
   pub answer_ledger : (r : Option Ledger) → AnswerPosted answer first second width entries (held_books h) r → r ≡ Some (posted_all xs (held_books h)).ledger
   answer_ledger r q = go answer p.accepted p.fits q
     where
-      go : (a : Result FragmentRows Refusal) → ((n : Refusal) → a ≡ Err n → ⊥) → books_small (posted_all (answer_reads a first second width entries) (held_books h)) ≡ true
+      go : (a : Result FragmentRows E) → ((n : E) → a ≡ Err n → ⊥) → books_small (posted_all (answer_reads a first second width entries) (held_books h)) ≡ true
           → AnswerPosted a first second width entries (held_books h) r → r ≡ Some (posted_all (answer_reads a first second width entries) (held_books h)).ledger
       go (Err n) ne t q = absurd (ne n refl)
       go (Ok (fragments.Single m)) ne t q = rw t at q

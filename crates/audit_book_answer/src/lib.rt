@@ -14,7 +14,6 @@ use audit_ledger::{Ledger, LentCounters};
 use audit_model::calls::FragmentRows;
 use audit_model::settings::{AuditState, MateRole};
 use map_answers::answer::{Mapping, state_number};
-use promises::refusal::Refusal;
 
 // A read as it is booked.
 fn tally_of(role: MateRole, mapping: Mapping) -> ReadTally
@@ -30,11 +29,11 @@ fn tally_of(role: MateRole, mapping: Mapping) -> ReadTally
 
 // The ledger with the reads of an answer, each with its groups at the front of its `width` numbers of the entries, if the books have room
 // for them. A refused answer has no reads.
-pub fn post_answer(
+pub fn post_answer<E: Copy>(
     ledger: Ledger,
     counters: LentCounters<'_>,
     entries: &[u64],
-    answer: Result<FragmentRows, Refusal>,
+    answer: Result<FragmentRows, E>,
     first_role: MateRole,
     second_role: MateRole,
     width: usize,
@@ -65,12 +64,12 @@ pub fn post_answer(
 }
 
 // Raises the counters by the reads of an answer for which they have room.
-fn raise_answer(
+fn raise_answer<E: Copy>(
     placements: &mut [u64],
     singles: &mut [u64],
     multi: &mut [u64],
     entries: &[u64],
-    answer: Result<FragmentRows, Refusal>,
+    answer: Result<FragmentRows, E>,
     first_role: MateRole,
     second_role: MateRole,
     width: usize,
@@ -102,13 +101,13 @@ fn raise_answer(
 }
 
 // Books the reads of an answer for which the books have room.
-pub fn book_answer(
+pub fn book_answer<E: Copy>(
     placements: &mut [u64],
     singles: &mut [u64],
     multi: &mut [u64],
     entries: &[u64],
     state: AuditState,
-    answer: Result<FragmentRows, Refusal>,
+    answer: Result<FragmentRows, E>,
     ordinal: u64,
     first_role: MateRole,
     second_role: MateRole,

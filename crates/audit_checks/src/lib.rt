@@ -50,7 +50,7 @@ fn counters_right(counters: LentCounters<'_>, targets: usize) -> bool
 }
 
 // Whether the columns are the index of the ranked sequences, where they are tested.
-fn index_fits(tested: bool, index: LentIndex<'_>, targets: RankedTargets<'_>, q: usize) -> bool
+fn index_fits(tested: bool, index: LentIndex<'_>, targets: RankedTargets<'_, '_>, q: usize) -> bool
     requires { Lent targets.bases.now targets.ends.now targets.ranked.now × SeedLength q }
     ensures { result ≡ index_fits tested q (sequences_in targets.entry) index.entry.keys.now index.entry.ranks.now index.entry.positions.now }
 {

@@ -1,7 +1,7 @@
 -- What the answers of the code stand for, and what the calls of an audit leave (REFERENCE.md, "Audit").
 use Rattle.std.specs.Prelude.{◌≡◌, Bool, true, false, List, [], ◌∷◌, ℕ, zero, suc, replicate, Result, Ok, Err}
 use Rattle.promises.specs.declared.refusal.Refusal.{Refusal}
-use Rattle.promises.specs.Refusal.{Outcome, refused, accepted, outcome, if_passed, refusal_number}
+use Rattle.promises.specs.Refusal.{Outcome, refused, accepted, outcome, if_passed, outcome_by, refusal_number}
 use Rattle.bases.specs.Read.{read_of}
 use Rattle.catalogue.specs.Catalogue.{Catalogue}
 use Rattle.map_every_start.specs.Entries.{entry_count}
@@ -63,9 +63,11 @@ call_outcome (Err n) = refused (refusal_number n)
 call_outcome (Ok u) = accepted tt
 
 -- `finish`: a refusal, or its sheet
+abbrev pub sheet_by : {E : Type 0} → (E → ℕ) → Result (Unit {0}) E → Sheet → Outcome Sheet
+sheet_by number answer s = outcome_by number (λ (u : Unit {0}). s) answer
+
 abbrev pub sheet_outcome : Result (Unit {0}) Refusal → Sheet → Outcome Sheet
-sheet_outcome (Err n) s = refused (refusal_number n)
-sheet_outcome (Ok u) s = accepted s
+sheet_outcome = sheet_by refusal_number
 
 abbrev pub finish_outcome : Finish → Outcome Sheet
 finish_outcome f = sheet_outcome f.answer f.sheet
@@ -73,10 +75,15 @@ finish_outcome f = sheet_outcome f.answer f.sheet
 abbrev pub mapping_row : Mapping → Row
 mapping_row m = row (state_number m.state) m.groups m.work
 
+abbrev pub rows_of : FragmentRows → List Row
+rows_of (fragments.Single m) = mapping_row m ∷ []
+rows_of (fragments.Paired m) = mapping_row m.first ∷ mapping_row m.second ∷ []
+
+abbrev pub fragment_by : {E : Type 0} → (E → ℕ) → Result FragmentRows E → Outcome (List Row)
+fragment_by number = outcome_by number rows_of
+
 abbrev pub fragment_outcome : Result FragmentRows Refusal → Outcome (List Row)
-fragment_outcome (Err n) = refused (refusal_number n)
-fragment_outcome (Ok (fragments.Single m)) = accepted (mapping_row m ∷ [])
-fragment_outcome (Ok (fragments.Paired m)) = accepted (mapping_row m.first ∷ mapping_row m.second ∷ [])
+fragment_outcome = fragment_by refusal_number
 
 -- ---- what the calls promise
 

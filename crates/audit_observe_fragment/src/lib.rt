@@ -21,7 +21,7 @@ use promises::refusal::Refusal;
 // Observes the reads of a checked fragment in ranked sequences: 10 or 17 with every entry zero, or their rows and groups.
 pub fn observe_ranked(
     entries: &mut [u64],
-    targets: RankedTargets<'_>,
+    targets: RankedTargets<'_, '_>,
     index: LentIndex<'_>,
     counters: LentCounters<'_>,
     indexed: bool,

@@ -50,7 +50,7 @@ pub fn search_read(
     entries: &mut [u64],
     from: usize,
     width: usize,
-    targets: RankedTargets<'_>,
+    targets: RankedTargets<'_, '_>,
     index: LentIndex<'_>,
     indexed: bool,
     q: usize,

@@ -30,7 +30,7 @@ pub fn share_of(mode: AuditInputMode, entries: usize) -> usize
 fn search_second(
     entries: &mut [u64],
     width: usize,
-    targets: RankedTargets<'_>,
+    targets: RankedTargets<'_, '_>,
     index: LentIndex<'_>,
     indexed: bool,
     q: usize,
@@ -52,7 +52,7 @@ fn search_second(
 // Observes the reads of a fragment: 10 with every entry zero, or their rows, and their groups in the entries.
 pub fn search_reads(
     entries: &mut [u64],
-    targets: RankedTargets<'_>,
+    targets: RankedTargets<'_, '_>,
     index: LentIndex<'_>,
     indexed: bool,
     q: usize,

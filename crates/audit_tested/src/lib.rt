@@ -25,7 +25,7 @@ pub fn audit_tested(
     singles: &mut [u64],
     multi: &mut [u64],
     index: LentIndex<'_>,
-    targets: RankedTargets<'_>,
+    targets: RankedTargets<'_, '_>,
     first: &[u8],
     first_qualities: &[u8],
     second: &[u8],

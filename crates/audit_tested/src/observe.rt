@@ -20,7 +20,7 @@ pub fn observe_tested(
     entries: &mut [u64],
     counters: LentCounters<'_>,
     index: LentIndex<'_>,
-    targets: RankedTargets<'_>,
+    targets: RankedTargets<'_, '_>,
     first: &[u8],
     first_qualities: &[u8],
     second: &[u8],

@@ -34,7 +34,7 @@ fn audit_fitting(
     singles: &mut [u64],
     multi: &mut [u64],
     index: LentIndex<'_>,
-    targets: RankedTargets<'_>,
+    targets: RankedTargets<'_, '_>,
     ordinals: &[u64],
     counts: &[u64],
     reads: LentReads<'_>,

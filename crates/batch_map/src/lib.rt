@@ -51,7 +51,7 @@ pub fn share_of(entries: usize, n: usize) -> usize
 fn map_ranked_reads(
     rows: &mut [u64],
     entries: &mut [u64],
-    targets: RankedTargets<'_>,
+    targets: RankedTargets<'_, '_>,
     index: LentIndex<'_>,
     q: usize,
     reads: &[u8],

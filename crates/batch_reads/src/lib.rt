@@ -24,7 +24,7 @@ fn map_share(
     entries: &mut [u64],
     from: usize,
     width: usize,
-    targets: RankedTargets<'_>,
+    targets: RankedTargets<'_, '_>,
     index: LentIndex<'_>,
     q: usize,
     read: &[u8],
@@ -45,7 +45,7 @@ fn map_share(
 pub fn map_shares(
     rows: &mut [u64],
     entries: &mut [u64],
-    targets: RankedTargets<'_>,
+    targets: RankedTargets<'_, '_>,
     index: LentIndex<'_>,
     q: usize,
     reads: &[u8],

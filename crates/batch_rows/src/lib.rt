@@ -1,20 +1,20 @@
 // The answer for a read written as a row of eight numbers.
 #![tactic(auto)]
 
-ghost use Rattle.std.specs.Prelude.{◌≡◌, ◌+◌, ◌≤◌, length, Ok};
-ghost use Rattle.promises.specs.Refusal.{refused, refusal_number};
+ghost use Rattle.std.specs.Prelude.{◌≡◌, ◌+◌, ◌≤◌, length};
+ghost use Rattle.promises.specs.Refusal.{refused, accepted};
 ghost use Rattle.buffers.specs.Placed.{placed};
-ghost use Rattle.map_answers.specs.Answer.{answer_of};
+ghost use Rattle.map_answers.specs.Answer.{answer_by, row, state_number};
 ghost use Rattle.batch_rows.specs.Rows.{row_numbers};
 
 use buffers::write_four;
 use map_answers::answer::{Mapping, state_number};
-use promises::refusal::Refusal;
+use promises::refusal::Numbered;
 
 // Writes the row of a refusal.
-fn write_refused(rows: &mut [u64], at: usize, refusal: Refusal)
+fn write_refused<E: Numbered>(rows: &mut [u64], at: usize, refusal: E)
     requires { at + 8 ≤ length rows.old }
-    ensures { rows.new ≡ placed at (row_numbers (refused (refusal_number refusal))) rows.old }
+    ensures { rows.new ≡ placed at (row_numbers (refused (E.its_number refusal))) rows.old }
 {
     write_four(rows, at, refusal.number(), 0, 0, 0);
     write_four(rows, at + 4, 0, 0, 0, 0);
@@ -23,7 +23,7 @@ fn write_refused(rows: &mut [u64], at: usize, refusal: Refusal)
 // Writes the row of a mapped read.
 fn write_mapped(rows: &mut [u64], at: usize, m: Mapping)
     requires { at + 8 ≤ length rows.old }
-    ensures { rows.new ≡ placed at (row_numbers (answer_of (Ok m))) rows.old }
+    ensures { rows.new ≡ placed at (row_numbers (accepted (row (state_number m.state) m.groups m.work))) rows.old }
 {
     let work = m.work;
     write_four(
@@ -45,9 +45,9 @@ fn write_mapped(rows: &mut [u64], at: usize, m: Mapping)
 }
 
 // Writes the row of an answer: refusal, state, groups, lookups, hits, examined, comparisons, seen.
-pub fn write_row(rows: &mut [u64], at: usize, answer: Result<Mapping, Refusal>)
+pub fn write_row<E: Numbered>(rows: &mut [u64], at: usize, answer: Result<Mapping, E>)
     requires { at + 8 ≤ length rows.old }
-    ensures { rows.new ≡ placed at (row_numbers (answer_of answer)) rows.old }
+    ensures { rows.new ≡ placed at (row_numbers (answer_by E.its_number answer)) rows.old }
 {
     match answer {
         Err(refusal) => write_refused(rows, at, refusal),

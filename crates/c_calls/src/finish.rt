@@ -42,7 +42,7 @@ pub fn finish_numbers(
         AUDIT_OFFSET,
         held,
     );
-    put_finish(answer, finish)
+    put_finish(answer, finish.answer, finish.sheet)
 }
 
 // Writes the sheet to the rows of the targets.

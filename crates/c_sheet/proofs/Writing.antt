@@ -1,5 +1,5 @@
 -- The numbers of a sheet written part by part, and the parts of a sheet read.
-use Rattle.std.specs.Prelude.{Ok, Err, Option, Some, None}
+use Rattle.std.specs.Prelude.{Result, Ok, Err, Option, Some, None}
 use Rattle.audit_model.specs.declared.sheet.PlacementTotals.{PlacementTotals}
 use mathlib.Core.Path.{◌≡◌, refl, ap, ap₂, ◌∙◌}
 use mathlib.Core.Bool.{Bool}
@@ -8,13 +8,10 @@ use Prim.Native.Nat.{ℕ, zero, suc, ◌+◌, ◌≤◌}
 use native.Mathlib.Omega.{arith}
 use lib.ListN.{length, get_or, set, replicate, length-append}
 use Rattle.lists.specs.Cut.{window}
-use Rattle.promises.specs.declared.refusal.Refusal.{Refusal}
-use Rattle.promises.specs.Refusal.{refusal_number}
 use Rattle.buffers.specs.Placed.{placed}
 use Rattle.buffers.proofs.Storing.{placed_one, placed-placed}
 use Rattle.c_replies.specs.Replies.{Put}
 use Rattle.audit_model.specs.declared.settings.AuditInputMode.{AuditInputMode}
-use Rattle.audit_model.specs.declared.calls.Finish.{Finish}
 use Rattle.audit_model.specs.declared.sheet.Status.{Status}
 use Rattle.audit_model.specs.declared.sheet.Status.TheVariants as statuses
 use Rattle.audit_model.specs.declared.sheet.Shown.{Shown}
@@ -23,7 +20,7 @@ use Rattle.audit_model.specs.Sheet.{shown, totals_of}
 use Rattle.audit_model.specs.Unitigs.{total_numbers, shown_numbers}
 use Rattle.audit_codes.specs.Codes.{mode_of, is_set, flag_number, mode_number, status_of}
 use Rattle.c_state.proofs.Writing.{put_two}
-use Rattle.audit_model.specs.Calls.{finish_outcome}
+use Rattle.audit_model.specs.Calls.{sheet_by}
 use Rattle.c_sheet.specs.Sheet.{sheet_numbers, finish_numbers, sheet_in}
 
 length_totals : (a : Option PlacementTotals) → length (total_numbers a) ≡ 3
@@ -54,13 +51,13 @@ module _ (s : Sheet) (lt : length s.table ≡ 18) (at : ℕ) (b : List ℕ) (h :
 put_behind : (n : ℕ) (xs b b₁ : List ℕ) → 1 + length xs ≤ length b → b₁ ≡ placed 1 xs (set b 0 n) → b₁ ≡ placed 0 (n ∷ xs) b
 put_behind n xs b b₁ h e = e ∙ ap (placed 1 xs) (placed_one 0 n b (omega arith)) ∙ placed-placed 0 (n ∷ []) b xs (omega arith)
 
-module _ (f : Finish) (b : List ℕ) (h : 25 ≤ length b) (b₁ : List ℕ) where
-  pub put_refused : (n : Refusal) (v r : ℕ) → f.answer ≡ Err n → v ≡ refusal_number n → r ≡ refusal_number n → b₁ ≡ placed 1 (replicate {A = ℕ} 24 0) (set b 0 v) → Put finish_numbers (finish_outcome f) r b b₁
+module _ {E : Type 0} (number : E → ℕ) (a : Result (Unit {0}) E) (s : Sheet) (b : List ℕ) (h : 25 ≤ length b) (b₁ : List ℕ) where
+  pub put_refused : (n : E) (v r : ℕ) → a ≡ Err n → v ≡ number n → r ≡ number n → b₁ ≡ placed 1 (replicate {A = ℕ} 24 0) (set b 0 v) → Put finish_numbers (sheet_by number a s) r b b₁
   put_refused n v r g e k w = rw (g, k) (record { number = refl; written = put_behind v (replicate {A = ℕ} 24 0) b b₁ h w ∙ ap (λ m. placed 0 (m ∷ replicate {A = ℕ} 24 0) b) e })
 
-  pub put_accepted : (v r : ℕ) → length (sheet_numbers f.sheet) ≡ 24 → f.answer ≡ Ok tt → v ≡ 0 → r ≡ 0 → b₁ ≡ placed 1 (sheet_numbers f.sheet) (set b 0 v) → Put finish_numbers (finish_outcome f) r b b₁
+  pub put_accepted : (v r : ℕ) → length (sheet_numbers s) ≡ 24 → a ≡ Ok tt → v ≡ 0 → r ≡ 0 → b₁ ≡ placed 1 (sheet_numbers s) (set b 0 v) → Put finish_numbers (sheet_by number a s) r b b₁
   put_accepted v r l g e k w =
-      rw (g, k) (record { number = refl; written = put_behind v (sheet_numbers f.sheet) b b₁ (omega arith) w ∙ ap (λ m. placed 0 (m ∷ sheet_numbers f.sheet) b) e })
+      rw (g, k) (record { number = refl; written = put_behind v (sheet_numbers s) b b₁ (omega arith) w ∙ ap (λ m. placed 0 (m ∷ sheet_numbers s) b) e })
 
 pub length_sheet : (s : Sheet) → length s.table ≡ 18 → length (sheet_numbers s) ≡ 24
 length_sheet s lt = omega (arith, length-append s.table (shown_numbers s.run), length-shown s.run)

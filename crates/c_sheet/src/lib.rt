@@ -4,16 +4,16 @@
 ghost use Rattle.std.specs.Prelude.{◌≡◌, true, ◌+◌, ◌≤◌, length};
 ghost use Rattle.buffers.specs.Placed.{placed};
 ghost use Rattle.c_replies.specs.Replies.{Put};
-ghost use Rattle.audit_model.specs.Calls.{finish_outcome};
+ghost use Rattle.audit_model.specs.Calls.{sheet_by};
 ghost use Rattle.c_sheet.specs.Sheet.{finish_length, finish_numbers, sheet_numbers, sheet_in, status_fits, is_sheet};
 
 use audit_codes::{flag_number, mode_number, mode_of, status_of};
-use audit_model::calls::Finish;
 use audit_model::sheet::{PlacementTotals, Sheet};
 use audit_sheet::showing::shown_with;
 use audit_unitigs::write_shown;
 use buffers::copy_numbers;
 use c_state::eighteen;
+use promises::refusal::Numbered;
 
 // Writes a sheet from a place on.
 fn put_sheet(numbers: &mut [u64], at: usize, sheet: Sheet)
@@ -30,11 +30,11 @@ fn put_sheet(numbers: &mut [u64], at: usize, sheet: Sheet)
 }
 
 // Writes the answer of `finish`, and returns its refusal.
-pub fn put_finish(answer: &mut [u64], finish: Finish) -> u64
+pub fn put_finish<E: Numbered>(answer: &mut [u64], finished: Result<(), E>, sheet: Sheet) -> u64
     requires { finish_length ≤ length answer.old }
-    ensures { Put finish_numbers (finish_outcome finish) result answer.old answer.new }
+    ensures { Put finish_numbers (sheet_by E.its_number finished sheet) result answer.old answer.new }
 {
-    match finish.answer {
+    match finished {
         Err(refusal) => {
             let number = refusal.number();
             let zeros = [0u64; 24];
@@ -44,7 +44,7 @@ pub fn put_finish(answer: &mut [u64], finish: Finish) -> u64
         }
         Ok(()) => {
             answer[0] = 0;
-            put_sheet(answer, 1, finish.sheet);
+            put_sheet(answer, 1, sheet);
             0
         }
     }

@@ -2,13 +2,12 @@
 #![tactic(auto)]
 
 ghost use Rattle.std.specs.Prelude.{◌+◌, ◌≤◌, length};
-ghost use Rattle.promises.specs.Refusal.{refusal_number};
 ghost use Rattle.catch_lines.specs.Lines.{line_room};
 ghost use Rattle.catch_advance.specs.Advancing.{Refuses, Waits, Stays};
 
 use catch_lines::put_refusal;
 use catch_progress::Progress;
-use promises::refusal::Refusal;
+use promises::refusal::{Numbered, Refusal};
 
 // Where the output ends, and how far the step went.
 #[derive(Clone, Copy)]
@@ -18,9 +17,9 @@ pub struct Advance {
 }
 
 // The run ends in a refusal.
-pub fn refuse(out: &mut [u8], at: usize, refusal: Refusal) -> Advance
+pub fn refuse<E: Numbered>(out: &mut [u8], at: usize, refusal: E) -> Advance
     requires { at + line_room ≤ length out.old }
-    ensures { Refuses (refusal_number refusal) out.old at out.new result }
+    ensures { Refuses (E.its_number refusal) out.old at out.new result }
 {
     let end = put_refusal(out, at, refusal);
     Advance {

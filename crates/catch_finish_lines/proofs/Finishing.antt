@@ -24,17 +24,17 @@ use Rattle.catch_sheet_lines.specs.Lent.{sheet_room, sheet_told}
 use Rattle.catch_sheet_lines.proofs.Targeting.{sheet_told_lem}
 use Rattle.catch_model.specs.Job.{lent_of, running, still}
 use Rattle.catch_model.proofs.Steps.{finish_accepts, finish_refuses}
-use Rattle.catch_finish_lines.specs.Finish.{answer_told, finish_lines}
+use Rattle.catch_finish_lines.specs.Finish.{told_by, answer_told, finish_lines}
 
 -- ---- answer by answer
 
-module _ (sheet : Sheet) (k : Counters) (ns : List (List ℕ)) (ms : List ℕ) (n : ℕ) (out : List ℕ) (at : ℕ) (out' : List ℕ) (r : ℕ) (a : Result (Unit {0}) Refusal) where
+module _ {E : Type 0} (number : E → ℕ) (sheet : Sheet) (k : Counters) (ns : List (List ℕ)) (ms : List ℕ) (n : ℕ) (out : List ℕ) (at : ℕ) (out' : List ℕ) (r : ℕ) (a : Result (Unit {0}) E) where
   -- a refusal, which takes no more room than a sheet
-  pub refusal_added : (e : Refusal) → a ≡ Err e → AddsAtMost line_room (refusal_line (refusal_number e)) out at out' r → AddsAtMost (sheet_room n) (answer_told a sheet k ns ms n) out at out' r
+  pub refusal_added : (e : E) → a ≡ Err e → AddsAtMost line_room (refusal_line (number e)) out at out' r → AddsAtMost (sheet_room n) (told_by number a sheet k ns ms n) out at out' r
   refusal_added e told h = rw told (record { adds = h.adds; room = omega arith })
 
   -- the lines of a sheet
-  pub sheet_added : a ≡ Ok tt → (at' : ℕ) (k' : Counters) → AddsAtMost (sheet_room n) (sheet_told sheet k' ns ms n) out at' out' r → at' ≡ at → k' ≡ k → AddsAtMost (sheet_room n) (answer_told a sheet k ns ms n) out at out' r
+  pub sheet_added : a ≡ Ok tt → (at' : ℕ) (k' : Counters) → AddsAtMost (sheet_room n) (sheet_told sheet k' ns ms n) out at' out' r → at' ≡ at → k' ≡ k → AddsAtMost (sheet_room n) (told_by number a sheet k ns ms n) out at out' r
   sheet_added e at' k' h here same = rw (e, sym here, sym same) h
 
 -- ---- the end of a run

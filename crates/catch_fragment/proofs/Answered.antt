@@ -102,7 +102,7 @@ module _ (bases base_ends ranked ks rs os ids ends bytes : List ℕ) (head : Fra
     as_many = sym (length-map f.reads (λ (r : MateRead). observed_row h.state.settings ss way (observe offset h.state.settings r))) ∙ ap length unrefused.1
 
   -- accepted, as its reads were lent
-  accepted_lent : (ordinal count : ℕ) (m m' : MateRead) (rows : FragmentRows) → Seen (fragment_of ordinal count m m') (Ok rows) → AnswerLent ids ends entries' (4 * share) (Ok rows)
+  accepted_lent : (ordinal count : ℕ) (m m' : MateRead) (rows : FragmentRows) → Seen (fragment_of ordinal count m m') (Ok rows) → AnswerLent {E = Refusal} ids ends entries' (4 * share) (Ok rows)
   accepted_lent ordinal count m m' rows seen =
       answer_named ids ends lent.named h.counters lent.each (role_number m.role) (role_number m'.role) (4 * share) entries' (Ok rows)
       (raisable offset ss way ranked h ordinal count m m' entries entries' (Ok rows) seen rows refl

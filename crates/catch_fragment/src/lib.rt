@@ -34,7 +34,7 @@ pub fn tell_fragment(
     index: LentIndex<'_>,
     identifiers: &[u8],
     identifier_ends: &[usize],
-    targets: RankedTargets<'_>,
+    targets: RankedTargets<'_, '_>,
     at: usize,
     bytes: &[u8],
     head: FragmentHead,

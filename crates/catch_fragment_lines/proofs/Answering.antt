@@ -1,6 +1,5 @@
 -- The lines of an answer, case by case.
 use Rattle.std.specs.Prelude.{Result, Ok}
-use Rattle.promises.specs.declared.refusal.Refusal.{Refusal}
 use mathlib.Core.Path.{◌≡◌, sym, subst}
 use mathlib.Core.List.{List, ◌++◌}
 use Prim.Native.Nat.{ℕ, ◌+◌, ◌-◌, ◌≤◌}
@@ -15,10 +14,10 @@ use Rattle.audit_model.specs.declared.calls.Mates.{Mates}
 use Rattle.catch_text.specs.Writing.{AddsAtMost}
 use Rattle.catch_text.proofs.Adding.{adds_both}
 use Rattle.catch_sheet_lines.specs.Lent.{read_told, EntriesLent}
-use Rattle.catch_fragment_lines.specs.Answer.{answer_lines, answer_room, AnswerLent}
+use Rattle.catch_fragment_lines.specs.Answer.{lines_by, answer_room, AnswerLent}
 
 -- an answer with its rows
-pub answered : {a : Result FragmentRows Refusal} {x y : FragmentRows} → a ≡ Ok x → x ≡ y → a ≡ Ok y
+pub answered : {E : Type 0} {a : Result FragmentRows E} {x y : FragmentRows} → a ≡ Ok x → x ≡ y → a ≡ Ok y
 answered e f = rw f at e
 
 -- bytes behind bytes
@@ -29,7 +28,7 @@ two_added f g = record { adds = adds_both f.adds g.adds; room = omega arith }
 pub fewer_lent : (ids ends entries : List ℕ) (m n : ℕ) → m ≤ n → EntriesLent ids ends entries n → EntriesLent ids ends entries m
 fewer_lent ids ends entries m n h l = record { named = l.named; listed = omega (arith, l.listed); placed = λ i below. l.placed i (omega arith) }
 
-module _ (ids ends entries : List ℕ) (width : ℕ) (a : Result FragmentRows Refusal) (lent : AnswerLent ids ends entries width a) where
+module _ {E : Type 0} (ids ends entries : List ℕ) (width : ℕ) (a : Result FragmentRows E) (lent : AnswerLent ids ends entries width a) where
   pub lent_single : (m : Mapping) → a ≡ Ok (fragments.Single m) → EntriesLent ids ends entries m.groups
   lent_single m e = subst (AnswerLent ids ends entries width) e lent
 
@@ -38,13 +37,13 @@ module _ (ids ends entries : List ℕ) (width : ℕ) (a : Result FragmentRows Re
   lent_paired m e = subst (AnswerLent ids ends entries width) e lent
 
 -- the room of an answer that is known
-pub room_of : (at n : ℕ) (a b : Result FragmentRows Refusal) → a ≡ b → at + answer_room a ≤ n → at + answer_room b ≤ n
+pub room_of : {E : Type 0} (at n : ℕ) (a b : Result FragmentRows E) → a ≡ b → at + answer_room a ≤ n → at + answer_room b ≤ n
 room_of at n a b e h = subst (λ x. at + answer_room x ≤ n) e h
 
 -- its lines
-pub lines_of : (ns : List (List ℕ)) (ordinal first second width : ℕ) (entries out : List ℕ) (at : ℕ) (out' : List ℕ) (r : ℕ) (a b : Result FragmentRows Refusal) → a ≡ b
-    → AddsAtMost (answer_room b) (answer_lines ns ordinal first second width b entries) out at out' r → AddsAtMost (answer_room a) (answer_lines ns ordinal first second width a entries) out at out' r
-lines_of ns ordinal first second width entries out at out' r a b e h = subst (λ x. AddsAtMost (answer_room x) (answer_lines ns ordinal first second width x entries) out at out' r) (sym e) h
+pub lines_of : {E : Type 0} (number : E → ℕ) (ns : List (List ℕ)) (ordinal first second width : ℕ) (entries out : List ℕ) (at : ℕ) (out' : List ℕ) (r : ℕ) (a b : Result FragmentRows E) → a ≡ b
+    → AddsAtMost (answer_room b) (lines_by number ns ordinal first second width b entries) out at out' r → AddsAtMost (answer_room a) (lines_by number ns ordinal first second width a entries) out at out' r
+lines_of number ns ordinal first second width entries out at out' r a b e h = subst (λ x. AddsAtMost (answer_room x) (lines_by number ns ordinal first second width x entries) out at out' r) (sym e) h
 
 -- the part from a place on, as it is lent
 part_behind : (l : List ℕ) (w : ℕ) → take (length l - w) (drop w l) ≡ drop w l

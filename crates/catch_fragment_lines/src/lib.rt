@@ -7,14 +7,14 @@ ghost use Rattle.audit_model.specs.Settings.{role_number};
 ghost use Rattle.audit_model.specs.Calls.{mapping_row};
 ghost use Rattle.catch_text.specs.Writing.{AddsAtMost};
 ghost use Rattle.catch_sheet_lines.specs.Lent.{read_told, EntriesLent};
-ghost use Rattle.catch_fragment_lines.specs.Answer.{answer_lines, read_room, answer_room, AnswerLent};
+ghost use Rattle.catch_fragment_lines.specs.Answer.{lines_by, read_room, answer_room, AnswerLent};
 
 use audit_model::calls::FragmentRows;
 use audit_model::settings::MateRole;
 use catch_lines::{put_read, put_refusal};
 use catch_sheet_lines::groups::put_groups;
 use map_answers::answer::Mapping;
-use promises::refusal::Refusal;
+use promises::refusal::Numbered;
 
 // R of a read, and G for each of its groups, which stand at the front of the entries.
 fn put_mate(
@@ -35,7 +35,7 @@ fn put_mate(
 }
 
 // The lines of an answer, each read's groups in a part of `width` numbers of the entries.
-pub fn put_answer(
+pub fn put_answer<E: Numbered>(
     out: &mut [u8],
     at: usize,
     identifiers: &[u8],
@@ -45,10 +45,10 @@ pub fn put_answer(
     ordinal: u64,
     first_role: MateRole,
     second_role: MateRole,
-    answer: Result<FragmentRows, Refusal>,
+    answer: Result<FragmentRows, E>,
 ) -> usize
     requires { AnswerLent identifiers.now ends.now entries.now width answer × (at + answer_room answer ≤ length out.old) }
-    ensures { AddsAtMost (answer_room answer) (answer_lines (lent_cut identifiers.now ends.now) ordinal (role_number first_role) (role_number second_role) width answer entries.now)
+    ensures { AddsAtMost (answer_room answer) (lines_by E.its_number (lent_cut identifiers.now ends.now) ordinal (role_number first_role) (role_number second_role) width answer entries.now)
         out.old at out.new result }
 {
     match answer {

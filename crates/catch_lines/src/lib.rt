@@ -2,7 +2,6 @@
 #![tactic(auto)]
 
 ghost use Rattle.std.specs.Prelude.{◌+◌, ◌≤◌, length};
-ghost use Rattle.promises.specs.Refusal.{refusal_number};
 ghost use Rattle.audit_model.specs.Settings.{role_number};
 ghost use Rattle.audit_model.specs.Calls.{mapping_row};
 ghost use Rattle.catch_lines.specs.Lines.{line_room, refusal_line, read_line, group_line, count_line, target_line, run_line};
@@ -13,12 +12,12 @@ use audit_model::sheet::Shown;
 use catch_fields::{put_places, put_role, put_status, put_strand, put_totals};
 use catch_text::{put_bytes, put_decimal};
 use map_answers::answer::{Mapping, state_number};
-use promises::refusal::Refusal;
+use promises::refusal::Numbered;
 
 // E number.
-pub fn put_refusal(out: &mut [u8], at: usize, refusal: Refusal) -> usize
+pub fn put_refusal<E: Numbered>(out: &mut [u8], at: usize, refusal: E) -> usize
     requires { at + line_room ≤ length out.old }
-    ensures { AddsAtMost line_room (refusal_line (refusal_number refusal)) out.old at out.new result }
+    ensures { AddsAtMost line_room (refusal_line (E.its_number refusal)) out.old at out.new result }
 {
     let a = put_bytes(out, at, b"E ");
     let b = put_decimal(out, a, refusal.number());

@@ -155,7 +155,8 @@ pub fn run(
             catalogue.identifier_ends,
             catalogue.marks,
             counters,
-            finish,
+            finish.answer,
+            finish.sheet,
         );
         return RunStep {
             advance: Advance {

@@ -1,16 +1,18 @@
 -- What a build answers, and what it leaves in the columns (REFERENCE.md, "Index").
 use Rattle.std.specs.Prelude.{◌≡◌, List, ◌++◌, ℕ, zero, suc, min, length, drop, leb, Result, Ok, Err}
 use Rattle.promises.specs.declared.refusal.Refusal.{Refusal}
-use Rattle.promises.specs.Refusal.{unless, Outcome, refused, accepted, outcome, refusal_number}
+use Rattle.promises.specs.Refusal.{unless, Outcome, outcome, outcome_by, refusal_number}
 use Rattle.catalogue.specs.Catalogue.{Catalogue}
 use Rattle.index_columns.specs.Posting.{Posting}
 use Rattle.index_seeds.specs.Seeds.{keys_of, ranks_of, positions_of}
 use Rattle.index_model.specs.Index.{index_of, index, build_refusal}
 
--- what each answer of `build` stands for
+-- what each answer of `build` stands for, by the numbers of refusals
+abbrev pub built_by : {E : Type 0} → (E → ℕ) → Result ℕ E → Outcome ℕ
+built_by number = outcome_by number (λ (k : ℕ). k)
+
 abbrev pub built_outcome : Result ℕ Refusal → Outcome ℕ
-built_outcome (Err n) = refused (refusal_number n)
-built_outcome (Ok k) = accepted k
+built_outcome = built_by refusal_number
 
 -- entries are what the shortest column holds
 abbrev pub entries : List ℕ → List ℕ → List ℕ → ℕ

@@ -21,7 +21,7 @@ fn build_ranked(
     keys: &mut [u64],
     ranks: &mut [u64],
     positions: &mut [u64],
-    targets: RankedTargets<'_>,
+    targets: RankedTargets<'_, '_>,
     q: usize,
 ) -> Result<usize, Refusal>
     requires { Lent targets.bases.now targets.ends.now targets.ranked.now × SeedLength q }

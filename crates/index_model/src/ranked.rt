@@ -6,16 +6,16 @@ ghost use Rattle.index_model.specs.Index.{all_seeds, Lent, sequences_in};
 
 use identifiers::sequences::sequence_at;
 
-// Bases of targets with their ends, and the places of the mapped targets by rank.
+// Bases of targets with their ends, and the places of the mapped targets by rank. A sequence lives as long as the bases.
 #[derive(Clone, Copy)]
-pub struct RankedTargets<'a> {
+pub struct RankedTargets<'a, 'b> {
     pub bases: &'a [u8],
-    pub ends: &'a [usize],
-    pub ranked: &'a [usize],
+    pub ends: &'b [usize],
+    pub ranked: &'b [usize],
 }
 
 // The sequence of a rank.
-pub fn ranked_sequence<'a>(targets: RankedTargets<'a>, rank: usize) -> &'a [u8]
+pub fn ranked_sequence<'a, 'b>(targets: RankedTargets<'a, 'b>, rank: usize) -> &'a [u8]
     requires { Lent targets.bases.now targets.ends.now targets.ranked.now × (rank < length targets.ranked.now) }
     ensures { result.now ≡ get_or (sequences_in targets.entry) rank [] }
 {
@@ -35,7 +35,7 @@ fn count_starts(sequence: &[u8], q: usize) -> usize
 }
 
 // How many postings all ranked sequences have.
-pub fn count_postings(targets: RankedTargets<'_>, q: usize) -> usize
+pub fn count_postings(targets: RankedTargets<'_, '_>, q: usize) -> usize
     requires { Lent targets.bases.now targets.ends.now targets.ranked.now × SeedLength q }
     ensures { result ≡ length (all_seeds q 0 (sequences_in targets.entry)) }
 {

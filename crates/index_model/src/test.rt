@@ -36,7 +36,7 @@ fn is_seed(
     key: u64,
     rank: usize,
     position: usize,
-    targets: RankedTargets<'_>,
+    targets: RankedTargets<'_, '_>,
     q: usize,
 ) -> bool
     requires table { Table table.now }
@@ -69,7 +69,7 @@ fn ends_right(
     key: u64,
     rank: usize,
     position: usize,
-    targets: RankedTargets<'_>,
+    targets: RankedTargets<'_, '_>,
     q: usize,
     high: u64,
 ) -> bool
@@ -95,7 +95,7 @@ fn ends_right(
 fn block_ends_right(
     table: &[u16; 256],
     index: LentIndex<'_>,
-    targets: RankedTargets<'_>,
+    targets: RankedTargets<'_, '_>,
     q: usize,
     from: usize,
     end: usize,
@@ -120,7 +120,7 @@ fn block_ends_right(
 fn block_right(
     table: &[u16; 256],
     index: LentIndex<'_>,
-    targets: RankedTargets<'_>,
+    targets: RankedTargets<'_, '_>,
     q: usize,
     from: usize,
     end: usize,
@@ -145,7 +145,7 @@ fn block_right(
 }
 
 // Whether every row is a seed and earlier than the next, block by block.
-fn rows_right(index: LentIndex<'_>, targets: RankedTargets<'_>, q: usize) -> bool
+fn rows_right(index: LentIndex<'_>, targets: RankedTargets<'_, '_>, q: usize) -> bool
     requires { Columns index.keys.now index.ranks.now index.positions.now × (Lent targets.bases.now targets.ends.now targets.ranked.now × SeedLength q) }
     ensures { Tells result (RowsRight q (sequences_in targets.entry) index.entry.keys.now index.entry.ranks.now index.entry.positions.now) }
 {
@@ -165,7 +165,7 @@ fn rows_right(index: LentIndex<'_>, targets: RankedTargets<'_>, q: usize) -> boo
 }
 
 // Whether three columns are the index of ranked sequences.
-pub fn is_index(index: LentIndex<'_>, targets: RankedTargets<'_>, q: usize) -> bool
+pub fn is_index(index: LentIndex<'_>, targets: RankedTargets<'_, '_>, q: usize) -> bool
     requires { Lent targets.bases.now targets.ends.now targets.ranked.now × SeedLength q }
     ensures { result ≡ columns_of (index_of q (sequences_in targets.entry)) index.entry.keys.now index.entry.ranks.now index.entry.positions.now }
 {

@@ -39,7 +39,7 @@ pub fn check_read(read: &[u8], limit: u64) -> Result<(), Refusal>
 // Tests a read and a limit, and searches: refusals 7 to 10, or the state and groups of the read.
 pub fn map_read(
     entries: &mut [u64],
-    targets: RankedTargets<'_>,
+    targets: RankedTargets<'_, '_>,
     index: LentIndex<'_>,
     q: usize,
     read: &[u8],
@@ -55,7 +55,7 @@ pub fn map_read(
 // Tests the index, and maps the read: refusals 6 to 10, or the state and groups of the read.
 fn map_ranked(
     entries: &mut [u64],
-    targets: RankedTargets<'_>,
+    targets: RankedTargets<'_, '_>,
     index: LentIndex<'_>,
     q: usize,
     read: &[u8],

@@ -1,7 +1,7 @@
 -- What a search answers, and what it leaves in the entries (REFERENCE.md, "Mapping").
 use Rattle.std.specs.Prelude.{◌≡◌, not, cond, ◌&&◌, List, [], ℕ, zero, suc, length, eqb, ltb, Result, Ok, Err}
 use Rattle.promises.specs.declared.refusal.Refusal.{Refusal}
-use Rattle.promises.specs.Refusal.{unless, Outcome, refused, accepted, outcome, if_passed, refusal_number}
+use Rattle.promises.specs.Refusal.{unless, Outcome, refused, accepted, outcome, if_passed, outcome_by, refusal_number}
 use Rattle.buffers.specs.Placed.{placed}
 use Rattle.map_places.specs.Place.{Place, groups}
 use Rattle.map_every_start.specs.Entries.{entries_of, entry_count, cleared}
@@ -30,10 +30,12 @@ pub record Row : Type 0 where
 abbrev pub row : ℕ → ℕ → MappingWork → Row
 row state groups work = record { state = state; groups = groups; work = work }
 
--- what each answer stands for
+-- what each answer stands for, by the numbers of refusals
+abbrev pub answer_by : {E : Type 0} → (E → ℕ) → Result Mapping E → Outcome Row
+answer_by number = outcome_by number (λ (m : Mapping). row (state_number m.state) m.groups m.work)
+
 abbrev pub answer_of : Result Mapping Refusal → Outcome Row
-answer_of (Err n) = refused (refusal_number n)
-answer_of (Ok m) = accepted (row (state_number m.state) m.groups m.work)
+answer_of = answer_by refusal_number
 
 -- ---- the groups of a read
 

@@ -57,7 +57,7 @@ fn counted(tally: Tally, n: usize) -> Tally
 // strand begins near a place that is told.
 pub fn search_index(
     entries: &mut [u64],
-    targets: RankedTargets<'_>,
+    targets: RankedTargets<'_, '_>,
     index: LentIndex<'_>,
     q: usize,
     read: &[u8],

@@ -36,7 +36,7 @@ impl OrientationCursor {
     // Moves on behind the next posting whose candidate, of n bases, lies within its target, or to the end.
     pub fn next_candidate(
         self,
-        targets: RankedTargets<'_>,
+        targets: RankedTargets<'_, '_>,
         ranks: &[u64],
         positions: &[u64],
         n: usize,

@@ -16,7 +16,7 @@ pub struct Sides {
 pub fn first_candidates(
     plus: OrientationCursor,
     minus: OrientationCursor,
-    targets: RankedTargets<'_>,
+    targets: RankedTargets<'_, '_>,
     ranks: &[u64],
     positions: &[u64],
     n: usize,
@@ -67,7 +67,7 @@ impl Sides {
     pub fn moved(
         self,
         plus: bool,
-        targets: RankedTargets<'_>,
+        targets: RankedTargets<'_, '_>,
         ranks: &[u64],
         positions: &[u64],
         n: usize,

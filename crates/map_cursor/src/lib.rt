@@ -62,7 +62,7 @@ fn counted(from: OrientationCursor, work: MappingWork, next: Candidate) -> Step
 pub fn advance(
     cursor: &mut OrientationCursor,
     work: &mut MappingWork,
-    targets: RankedTargets<'_>,
+    targets: RankedTargets<'_, '_>,
     ranks: &[u64],
     positions: &[u64],
     n: usize,
@@ -82,7 +82,7 @@ pub fn advance(
 pub fn advanced(
     cursor: OrientationCursor,
     work: MappingWork,
-    targets: RankedTargets<'_>,
+    targets: RankedTargets<'_, '_>,
     ranks: &[u64],
     positions: &[u64],
     n: usize,

@@ -9,7 +9,7 @@ use index_model::ranked::{RankedTargets, ranked_sequence};
 // Both strands at a start.
 fn visit_both(
     entries: &mut [u64],
-    targets: RankedTargets<'_>,
+    targets: RankedTargets<'_, '_>,
     read: &[u8],
     bound: usize,
     rank: usize,
@@ -30,7 +30,7 @@ fn visit_both(
 // Every fitting start of the sequence of a rank.
 fn scan_sequence(
     entries: &mut [u64],
-    targets: RankedTargets<'_>,
+    targets: RankedTargets<'_, '_>,
     read: &[u8],
     bound: usize,
     rank: usize,
@@ -53,7 +53,7 @@ fn scan_sequence(
 }
 
 // Every fitting start of every sequence.
-pub fn scan(entries: &mut [u64], targets: RankedTargets<'_>, read: &[u8], bound: usize) -> Tally
+pub fn scan(entries: &mut [u64], targets: RankedTargets<'_, '_>, read: &[u8], bound: usize) -> Tally
     requires { Searchable targets.bases.now targets.ends.now targets.ranked.now read.now × Going bound 0 0 0 entries.old }
     ensures { AllSearched (sequences_in targets.entry) targets.entry.ranked.now read.now bound entries.old result entries.new }
 {

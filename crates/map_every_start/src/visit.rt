@@ -25,7 +25,7 @@ fn end_of(start: usize, read: &[u8]) -> usize
 // Compares a read at a place. A match within the bound is entered behind those seen before.
 pub fn visit(
     entries: &mut [u64],
-    targets: RankedTargets<'_>,
+    targets: RankedTargets<'_, '_>,
     read: &[u8],
     bound: usize,
     rank: usize,

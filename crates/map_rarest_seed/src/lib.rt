@@ -67,7 +67,7 @@ impl SeedChoice {
 // Looks the seeds of a read up, offset by offset, and stops after a lookup that finds none. Offsets that are known to have no fewer
 // postings are counted, and not looked up. The first lookup begins near a place that is told.
 pub fn rarest_seed(
-    targets: RankedTargets<'_>,
+    targets: RankedTargets<'_, '_>,
     index: LentIndex<'_>,
     q: usize,
     read: &[u8],

@@ -15,7 +15,7 @@ const MOST_BASES: usize = 128;
 
 // How many bases behind a posting agree with those behind the seed at offset o, up to a bound and to the target's last base.
 fn behind_posting(
-    targets: RankedTargets<'_>,
+    targets: RankedTargets<'_, '_>,
     rank: usize,
     position: usize,
     q: usize,
@@ -35,7 +35,7 @@ fn behind_posting(
 
 // How many bases agree behind each posting from start up to end.
 fn behind_all(
-    targets: RankedTargets<'_>,
+    targets: RankedTargets<'_, '_>,
     ranks: &[u64],
     positions: &[u64],
     start: usize,
@@ -64,7 +64,7 @@ fn behind_all(
 // How many of the `most` offsets behind offset o are known to have no fewer postings than the seed there; none if nobody looks.
 pub fn shown(
     look: bool,
-    targets: RankedTargets<'_>,
+    targets: RankedTargets<'_, '_>,
     ranks: &[u64],
     positions: &[u64],
     start: usize,

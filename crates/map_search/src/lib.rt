@@ -21,7 +21,7 @@ use promises::refusal::Refusal;
 // Searches at every start: refusal 10, or the state and groups of a read.
 pub fn search_every_start(
     entries: &mut [u64],
-    targets: RankedTargets<'_>,
+    targets: RankedTargets<'_, '_>,
     read: &[u8],
     limit: u64,
 ) -> Result<Mapping, Refusal>
@@ -38,7 +38,7 @@ pub fn search_every_start(
 // a read.
 pub fn search(
     entries: &mut [u64],
-    targets: RankedTargets<'_>,
+    targets: RankedTargets<'_, '_>,
     index: LentIndex<'_>,
     q: usize,
     read: &[u8],
@@ -65,7 +65,7 @@ pub fn search_part(
     entries: &mut [u64],
     from: usize,
     width: usize,
-    targets: RankedTargets<'_>,
+    targets: RankedTargets<'_, '_>,
     index: LentIndex<'_>,
     q: usize,
     read: &[u8],

@@ -73,7 +73,7 @@ fn is_followed(
 // Passes over the candidates of one side that differ at a place of the first one's sequence, up to a limit.
 fn pass_side(
     first: Candidate,
-    targets: RankedTargets<'_>,
+    targets: RankedTargets<'_, '_>,
     ranks: &[u64],
     positions: &[u64],
     read: &[u8],
@@ -117,7 +117,7 @@ pub fn pass(
     look: bool,
     compared: Candidate,
     sides: Sides,
-    targets: RankedTargets<'_>,
+    targets: RankedTargets<'_, '_>,
     ranks: &[u64],
     positions: &[u64],
     read: &[u8],

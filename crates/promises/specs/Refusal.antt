@@ -71,9 +71,9 @@ refusal_number refusals.ReadList = 25
 refusal_number refusals.AnswerRoom = 26
 
 -- what an answer stands for: a refusal by its number, or what its value stands for
-abbrev pub outcome_by : {A B : Type 0} → (A → B) → Result A Refusal → Outcome B
-outcome_by f (Ok a) = accepted (f a)
-outcome_by f (Err e) = refused (refusal_number e)
+abbrev pub outcome_by : {E A B : Type 0} → (E → ℕ) → (A → B) → Result A E → Outcome B
+outcome_by number told (Ok a) = accepted (told a)
+outcome_by number told (Err e) = refused (number e)
 
 -- the number of a test that answers nothing else: its refusal, or 0
 abbrev pub test_number : {A : Type 0} → Result A Refusal → ℕ

@@ -1,5 +1,5 @@
 // Why a call is refused.
-ghost use Rattle.std.specs.Prelude.{◌≡◌};
+ghost use Rattle.std.specs.Prelude.{◌≡◌, ℕ};
 ghost use Rattle.promises.specs.Refusal.{refusal_number, test_number};
 
 // What is refused. The numbers are those of REFERENCE.md.
@@ -35,6 +35,32 @@ impl Refusal {
         ensures { result ≡ refusal_number self }
     {
         self as u64
+    }
+}
+
+// What a refusal is told by: it has a number.
+pub trait Numbered: Copy {
+    ghost its_number: { Self → ℕ };
+
+    // Its number.
+    fn number(self) -> u64
+        ensures { result ≡ its_number self };
+}
+
+impl Numbered for Refusal {
+    ghost its_number = { refusal_number };
+
+    fn number(self) -> u64 {
+        self.number()
+    }
+}
+
+// A number alone, of any refusal.
+impl Numbered for u64 {
+    ghost its_number = { λ n. n };
+
+    fn number(self) -> Self {
+        self
     }
 }
 

@@ -4,7 +4,7 @@ use audit_ledger::{Ledger, LentCounters};
 use audit_model::calls::FragmentRows;
 use audit_model::settings::{AuditState, Settings};
 use audit_model::sheet::{PlacementTotals, Sheet};
-use promises::refusal::Refusal;
+use promises::refusal::Numbered;
 use test_cases::writing::{put, put_line, put_number, put_numbers};
 use test_map_calls::answered::put_mapping;
 
@@ -56,14 +56,14 @@ pub fn put_counters(rt: &impl Print, counters: LentCounters<'_>) {
 }
 
 // The answer of a call, with the line of an accepted one.
-pub fn put_call(rt: &impl Print, answer: Result<(), Refusal>, accepted: &[u8]) {
+pub fn put_call<E: Numbered>(rt: &impl Print, answer: Result<(), E>, accepted: &[u8]) {
     match answer {
         Err(refusal) => put_line(rt, b"refused ", refusal.number()),
         Ok(()) => put(rt, accepted),
     }
 }
 
-pub fn put_fragment(rt: &impl Print, answer: Result<FragmentRows, Refusal>) {
+pub fn put_fragment<E: Numbered>(rt: &impl Print, answer: Result<FragmentRows, E>) {
     match answer {
         Err(refusal) => put_line(rt, b"refused ", refusal.number()),
         Ok(FragmentRows::Single(row)) => put_mapping(rt, row),

@@ -1,6 +1,6 @@
 // Answers of `map`, written.
 use map_answers::answer::{Mapping, state_number};
-use promises::refusal::Refusal;
+use promises::refusal::Numbered;
 use test_cases::writing::{put_line, put_numbers};
 
 // State, number of groups and work counts.
@@ -19,7 +19,7 @@ pub fn put_mapping(rt: &impl Print, m: Mapping) {
 }
 
 // An answer, and what the call leaves in the entries.
-pub fn put_answer(rt: &impl Print, answer: Result<Mapping, Refusal>, entries: &[u64]) {
+pub fn put_answer<E: Numbered>(rt: &impl Print, answer: Result<Mapping, E>, entries: &[u64]) {
     match answer {
         Err(refusal) => put_line(rt, b"refused ", refusal.number()),
         Ok(m) => put_mapping(rt, m),

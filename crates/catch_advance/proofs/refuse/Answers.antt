@@ -3,4 +3,4 @@ use mathlib.Core.Path.{refl}
 use Rattle.catch_advance.proofs.refuse.Goals as goal
 
 pub returns : goal.returns
-returns c = record { adds = c.put_refusal-end.ensures; last = refl }
+returns g c = record { adds = c.put_refusal-end.ensures; last = refl }

@@ -7,10 +7,10 @@ use Rattle.catch_finish_lines.proofs.Finishing.{refusal_added, sheet_added}
 use Rattle.catch_finish_lines.proofs.put_finish.Goals as goal
 
 pub returns-in-Err : goal.returns-in-Err
-returns-in-Err c = refusal_added _ _ _ _ _ _ _ _ _ _ _ c.in-Err.is c.put_refusal.ensures
+returns-in-Err g c = refusal_added _ _ _ _ _ _ _ _ _ _ _ _ c.in-Err.is c.put_refusal.ensures
 
 pub returns-in-Ok : goal.returns-in-Ok
-returns-in-Ok c =
+returns-in-Ok g c =
     let a = c.args in
     let k = counters_of a.counters.placements.now a.counters.singles.now a.counters.multi.now in
-    sheet_added _ k (cut a.ends.now a.identifiers.now) a.marks.now _ _ _ _ _ _ c.in-Ok.is _ _ c.put_sheet.ensures (omega arith) (refl {a = k})
+    sheet_added _ _ k (cut a.ends.now a.identifiers.now) a.marks.now _ _ _ _ _ _ c.in-Ok.is _ _ c.put_sheet.ensures (omega arith) (refl {a = k})
